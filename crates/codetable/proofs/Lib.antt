@@ -1,0 +1,4 @@
+pub mod Bits
+pub mod Stored
+pub mod Told
+pub mod Kept

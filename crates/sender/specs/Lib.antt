@@ -1,0 +1,4 @@
+pub mod Effects
+pub mod Accounts
+pub mod Reports
+pub mod Images

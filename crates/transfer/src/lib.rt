@@ -1,0 +1,6 @@
+// A transfer: the file words that carry a list of codewords.
+mod format;
+mod state;
+
+pub use state::ClosedTransfer;
+pub use state::OpenTransfer;
