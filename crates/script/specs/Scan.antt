@@ -1,4 +1,4 @@
--- How far a scan of bytes goes. Assumes nothing.
+-- How far a scan of bytes goes.
 use mathlib.Core.Bool.{Bool, true, false, not}
 use mathlib.Core.List.{List, [], _∷_}
 use mathlib.Core.Path.{_≡_}

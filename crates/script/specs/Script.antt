@@ -1,4 +1,4 @@
--- What a text says: its lines, the fields of a line, and what the fields enter. Assumes nothing.
+-- What a text says: its lines, the fields of a line, and what the fields enter.
 use mathlib.Core.Bool.{Bool, true, false, cond, _&&_, _||_}
 use mathlib.Core.List.{List, [], _∷_}
 use Prim.Native.Nat.{ℕ, _+_, _-_, _*_, _%_, _^_}

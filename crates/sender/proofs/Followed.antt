@@ -1,7 +1,9 @@
 -- The run over a text, from one line to the next.
 use mathlib.Core.Path.{_≡_, refl, sym, ap, subst, _∙_}
 use mathlib.Core.List.{List, [], _∷_, _++_, append-assoc, append-nil}
+use mathlib.Core.Logic.{⊎-elim}
 use Prim.Native.Nat.{ℕ, _+_}
+use native.Mathlib.Omega.{arith}
 use lib.ListN.{length, drop}
 use Rattle.std.specs.declared.option.Option.{Option}
 use Rattle.std.specs.declared.result.Result.{Result}
@@ -17,6 +19,7 @@ use Rattle.transfer.specs.declared.state.OpenTransfer.{OpenTransfer}
 use Rattle.transfer.specs.Transfers.{sent-bits}
 use Rattle.transfer.specs.Calls.{step-checks, close-checks, Carries}
 use Rattle.transfer.proofs.Carried.{same-length}
+use Rattle.transfer.proofs.Written.{written-none}
 use Rattle.script.specs.Script.{lines, fields, reading}
 use Rattle.sender.specs.declared.Line.{Line}
 use Rattle.sender.specs.declared.Report.{Report}
@@ -70,3 +73,10 @@ module _ (s : Progress) (session : Session) (before now : List ℕ) (h : Holds s
 pub close-checks-same : (o : OpenTransfer) (before now : List ℕ) (sent : List Codeword) → Carries o before now sent → close-checks (o .bits) (length now) ≡ close-checks (length (sent-bits sent)) (length before)
 close-checks-same o before now sent h =
     ap (λ (n : ℕ). close-checks n (length now)) (h .bits) ∙ ap (close-checks (length (sent-bits sent))) (same-length o before now now sent h)
+
+-- a transfer that is too short to be closed has sent nothing
+pub unsent : (o : OpenTransfer) (before now after : List ℕ) (sent : List Codeword) (n : ℕ) → Carries o before now sent → FirstDue (close-checks (length (sent-bits sent)) (length before)) n → after ≡ now → (sent ≡ []) × (after ≡ before)
+unsent o before now after [] n h due e = (refl, e ∙ h .buffer ∙ written-none before 0)
+unsent o before now after (w ∷ ws) n h due e =
+    let room = h .closable (λ none. let z : _≡_ {A = ℕ} 0 1 = cc in omega arith) in
+    absurd (⊎-elim (λ d. omega (arith, d .0, room, h .bits)) (λ d. d .1) due)

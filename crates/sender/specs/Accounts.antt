@@ -1,6 +1,6 @@
 -- The account of a whole text.
 use mathlib.Core.Path.{_≡_}
-use mathlib.Core.List.{List, map}
+use mathlib.Core.List.{List, []}
 use Prim.Native.Nat.{ℕ}
 use lib.ListN.{length}
 use Rattle.std.specs.Of.Vec.{vec-items}
@@ -11,8 +11,7 @@ use Rattle.refusal.specs.Checks.{Judged}
 use Rattle.codetable.specs.declared.word.Codeword.{Codeword}
 use Rattle.codetable.specs.Tables.{words}
 use Rattle.transfer.specs.declared.state.ClosedTransfer.{ClosedTransfer}
-use Rattle.transfer.specs.Format.{bit-word}
-use Rattle.transfer.specs.Transfers.{sent-bits, written}
+use Rattle.transfer.specs.Transfers.{sent-bits}
 use Rattle.transfer.specs.Calls.{close-checks, Carries, Delivers}
 use Rattle.script.specs.Script.{lines}
 use Rattle.sender.specs.declared.Account.{Account}
@@ -25,11 +24,11 @@ pub record Holds (s : Progress) (session : Session) (before now : List ℕ) : Ty
   pub table : words (session .table) ≡ s .words
   pub sent : Carries (session .transfer) before now (s .sent)
 
--- The transfer of the words sent is closed into a buffer that was `before`, whose rest stays as it was;
--- where the buffer is too short for that, only their BIT words stand there.
+-- The transfer of the words sent is closed into a buffer that was `before`, whose rest stays as it was.
+-- Where the buffer is too short for that, no word was sent, and the buffer is as it was.
 abbrev pub Closes : List ℕ → List Codeword → Result ClosedTransfer TransferFault → List ℕ → Type 0
 Closes before sent r after =
-    Judged (close-checks (length (sent-bits sent)) (length before)) Transfer r (λ c. Delivers c before after sent) (λ _. after ≡ written before 0 (map bit-word (sent-bits sent)))
+    Judged (close-checks (length (sent-bits sent)) (length before)) Transfer r (λ c. Delivers c before after sent) (λ _. (sent ≡ []) × (after ≡ before))
 
 -- The text leads from the start to `progress`; the account has its lines and its table, and the transfer
 -- of the words sent is closed.

@@ -5,7 +5,7 @@ ghost use Prim.Native.Nat.{ℕ, _+_, _≤_, _<_};
 ghost use lib.ListN.{length};
 ghost use Rattle.std.specs.Finite.{nth};
 ghost use Rattle.std.specs.Of.Vec.{vec-items, vec-len, vec-cap};
-ghost use Rattle.std.specs.Vec.{made, refused};
+ghost use Rattle.std.specs.Results.{Cases};
 ghost use Rattle.std.specs.declared.option.Option.the-variants.{Some};
 ghost use Rattle.std.specs.declared.result.Result.the-variants.{Ok};
 ghost use Rattle.refusal.specs.Checks.{Judged};
@@ -14,7 +14,7 @@ ghost use Rattle.refusal.specs.declared.Layer.the-variants.{Table};
 ghost use Rattle.codetable.specs.Tables.{words, word-checks};
 ghost use Rattle.codetable.specs.declared.word.Codeword.{Codeword};
 ghost use Rattle.transfer.specs.Calls.{Carries};
-ghost use Rattle.script.specs.Script.{lines, fields, reading};
+ghost use Rattle.script.specs.Script.{lines as lines-of, fields, reading};
 ghost use Rattle.script.specs.declared.Entry.the-variants.{Step};
 ghost use Rattle.sender.specs.Effects.{Progress, weighed, Does, listed, start, Runs};
 ghost use Rattle.sender.specs.Accounts.{Accounts, Holds, Closes};
@@ -30,8 +30,6 @@ use refusal::TransferFault;
 use script::Entry;
 use script::line_end;
 use script::parse_line;
-use std::alloc::AllocError;
-use std::alloc::Global;
 use transfer::ClosedTransfer;
 use transfer::OpenTransfer;
 
@@ -121,8 +119,8 @@ fn note(lines: &mut Vec<Line>, number: usize, report: Option<Report>)
 }
 
 // How many lines a text has.
-fn count_lines(text: &[u8]) -> usize
-    ensures count { λ r. ⌜ r ≡ length (lines (now (text .entry))) ⌝ }
+pub fn count_lines(text: &[u8]) -> usize
+    ensures count { λ r. ⌜ r ≡ length (lines-of (now (text .entry))) ⌝ }
 {
     let mut count = 1;
     let mut end = line_end(text, 0);
@@ -136,8 +134,8 @@ fn count_lines(text: &[u8]) -> usize
 // Follows each line of a text, from a session without words and steps.
 fn follow_all(text: &[u8], buffer: &mut [u8], account: &mut Vec<Line>) -> Session
     requires empty { ⌜ vec-len (now account) ≡ 0 ⌝ }
-    requires room { ⌜ length (lines (now text)) ≤ vec-cap (now account) ⌝ }
-    ensures runs { λ r. ⌜ ((t : Progress) × Runs (length (now (buffer .entry))) 1 start (lines (now (text .entry))) (vec-items (now (account .exit))) t × Holds t r (now (buffer .entry)) (now (buffer .exit))) ⌝ }
+    requires room { ⌜ length (lines-of (now text)) ≤ vec-cap (now account) ⌝ }
+    ensures runs { λ r. ⌜ ((t : Progress) × Runs (length (now (buffer .entry))) 1 start (lines-of (now (text .entry))) (vec-items (now (account .exit))) t × Holds t r (now (buffer .entry)) (now (buffer .exit))) ⌝ }
 {
     let mut session = Session {
         table: CodeTable::new(),
@@ -169,12 +167,15 @@ fn finish(transfer: OpenTransfer, buffer: &mut [u8]) -> Result<ClosedTransfer, T
 }
 
 // Follows a text: its words go into a new table, its steps into a transfer that is closed at the end.
-// The transfer is written to the buffer. Want of memory leaves the buffer as it was.
-pub fn run(heap: Global, text: &[u8], buffer: &mut [u8]) -> Result<Account, AllocError>
-    ensures accounts { λ r. ⌜ made r (λ a. Accounts (now (text .entry)) (now (buffer .entry)) a (now (buffer .exit))) ⌝ }
-    ensures untouched { λ r. ⌜ refused r (λ _. now (buffer .exit) ≡ now (buffer .entry)) ⌝ }
+// The transfer is written to the buffer, and the account to `lines`, whatever that held. If `lines` has no room for as
+// many lines as the text has, it is handed back, and nothing is done.
+pub fn run(text: &[u8], buffer: &mut [u8], mut lines: Vec<Line>) -> Result<Account, Vec<Line>>
+    ensures accounts { λ r. ⌜ Cases r (λ a. (length (lines-of (now (text .entry))) ≤ vec-cap lines) × Accounts (now (text .entry)) (now (buffer .entry)) a (now (buffer .exit))) (λ back. (vec-cap lines < length (lines-of (now (text .entry)))) × (back ≡ lines) × (now (buffer .exit) ≡ now (buffer .entry))) ⌝ }
 {
-    let mut lines = Vec::with_capacity(heap, count_lines(text))?;
+    if lines.capacity() < count_lines(text) {
+        return Err(lines);
+    }
+    lines.clear();
     let Session { table, transfer } = follow_all(text, buffer, &mut lines);
     let closed = finish(transfer, buffer);
     Ok(Account {

@@ -18,10 +18,11 @@ mod driver;
 mod image;
 mod session;
 
+pub use driver::count_lines;
 pub use driver::run;
 pub use image::file_image;
 
-// What came of a line: of a word, of a step, or why it is neither.
+// What came of a line: of a word, of a step, or why it cannot be read.
 #[derive(Clone, Copy)]
 pub enum Report {
     Word(Result<(), Refusal>),

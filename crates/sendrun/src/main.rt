@@ -5,6 +5,7 @@ use refusal::RefusalDisplay;
 use refusal::RefusalFromTransfer;
 use sender::Account;
 use sender::LineDisplay;
+use sender::count_lines;
 use sender::file_image;
 use sender::run;
 use std::env;
@@ -77,7 +78,10 @@ fn send(rt: &LibcRuntime) -> Result<(), AnyError> {
     let mut text = Vec::new(heap);
     rt.stdin().read_to_end(&mut text)?;
     let mut buffer = vec![in heap; 0u8; BUFFER]?;
-    let account = run(heap, text.as_slice(), buffer.as_mut_slice())?;
+    let lines = Vec::with_capacity(heap, count_lines(text.as_slice()))?;
+    let Ok(account) = run(text.as_slice(), buffer.as_mut_slice(), lines) else {
+        return Err("no room for the account".into());
+    };
     match &account.closed {
         Ok(closed) => {
             let bytes = bytes_of(closed, buffer.as_slice())?;

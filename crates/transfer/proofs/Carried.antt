@@ -53,7 +53,7 @@ module _ (o : OpenTransfer) (before b after : List ℕ) (sent : List Codeword) (
       ∙ ap (λ (n : ℕ). written (written before 0 words) n vs) (sym count ∙ sym (zero-add (length words)))
       ∙ written-more before 0 words fits vs
 
-  pub stepped-carries : (ws : List Codeword) (k : ℕ) (w : Codeword) (p : OpenTransfer) → nth ws k ≡ Some w → 4 * (o .bits + w .len) ≤ length b → Stepped ws k o p b after → Carries p before after (sent ++ w ∷ [])
+  pub stepped-carries : (ws : List Codeword) (k : ℕ) (w : Codeword) (p : OpenTransfer) → nth ws k ≡ Some w → 4 * (o .bits + w .len + closing) ≤ length b → Stepped ws k o p b after → Carries p before after (sent ++ w ∷ [])
   stepped-carries ws k w p e room s =
       let there = bits-there ws k w e in
       let long = length-there ws k w e in
@@ -61,6 +61,7 @@ module _ (o : OpenTransfer) (before b after : List ℕ) (sent : List Codeword) (
         steps = s .steps ∙ ap (λ (n : ℕ). n + 1) (carried .steps) ∙ sym (length-push sent w);
         bits = s .bits ∙ ap (λ (n : ℕ). n + length (bits-at ws k)) (carried .bits) ∙ ap (λ (l : List Bool). length (sent-bits sent) + length l) there ∙ sym (length-append (sent-bits sent) (bits w)) ∙ ap length (sym (sent-more sent w));
         room = omega (arith, s .bits, same-length);
+        closable = λ _. omega (arith, s .bits, same-length);
         buffer = behind (map bit-word (bits-at ws k)) (s .buffer)
             ∙ ap (λ (l : List Bool). written before 0 (words ++ map bit-word l)) there
             ∙ ap (written before 0) (sym (map-append bit-word (sent-bits sent) (bits w)))

@@ -10,13 +10,13 @@ use Rattle.codetable.specs.declared.word.Codeword.{Codeword}
 use Rattle.transfer.specs.declared.state.OpenTransfer.{OpenTransfer}
 use Rattle.transfer.specs.declared.state.ClosedTransfer.{ClosedTransfer}
 use Rattle.transfer.specs.Format.{bit-word, load-word, end-word}
-use Rattle.transfer.specs.Transfers.{most-steps, most-sent, closing, sent-bits, transfer-words, written, bits-at}
+use Rattle.transfer.specs.Transfers.{most-steps, most-sent-bits, closing, sent-bits, transfer-words, written, bits-at}
 
 -- What is checked, in this order, before word k of a table is sent behind so many steps and bits,
 -- into a buffer of `size` bytes: the words that close the transfer must still fit.
 abbrev pub step-checks : List Codeword → ℕ → ℕ → ℕ → ℕ → List Check
 step-checks ws steps sent k size =
-    (length ws ≤ k, no-word) ∷ ((most-steps ≤ steps) ⊎ (most-sent < sent + length (bits-at ws k)), full) ∷ (size < 4 * (sent + length (bits-at ws k) + closing), short) ∷ []
+    (length ws ≤ k, no-word) ∷ ((most-steps ≤ steps) ⊎ (most-sent-bits < sent + length (bits-at ws k)), full) ∷ (size < 4 * (sent + length (bits-at ws k) + closing), short) ∷ []
 
 -- what is checked before a transfer of so many bits is closed
 abbrev pub close-checks : ℕ → ℕ → List Check
@@ -40,6 +40,8 @@ pub record Carries (o : OpenTransfer) (before now : List ℕ) (sent : List Codew
   pub steps : o .steps ≡ length sent
   pub bits : o .bits ≡ length (sent-bits sent)
   pub room : 4 * o .bits ≤ length before
+  -- once a word is sent there is room to close
+  pub closable : (sent ≡ [] → ⊥) → 4 * (o .bits + closing) ≤ length before
   pub buffer : now ≡ written before 0 (map bit-word (sent-bits sent))
 
 -- the file words of a closed transfer

@@ -1,4 +1,4 @@
--- The words of a file: 32 bits each, the highest byte first. The top three bits are the kind.
+-- The words of a file: 32 bits each, the highest byte first. The top three bits are the kind, by which each is named.
 use mathlib.Core.Bool.{Bool, true, false}
 use mathlib.Core.List.{List, [], _∷_}
 use Prim.Native.Nat.{ℕ, _+_, _-_, _*_, _/_, _%_, _^_}
@@ -29,7 +29,7 @@ soft-byte true = 2 ^ 8 - 64
 abbrev pub bit-word : Bool → ℕ
 bit-word b = of-kind 4 (soft-byte b)
 
--- the end of a list of n codewords
+-- the order to load n codewords
 abbrev pub load-word : ℕ → ℕ
 load-word n = of-kind 6 n
 

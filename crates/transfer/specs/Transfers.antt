@@ -15,8 +15,8 @@ use Rattle.transfer.specs.Format.{bit-word, load-word, end-word, bytes-of}
 abbrev pub most-steps : ℕ
 most-steps = 32
 
-abbrev pub most-sent : ℕ
-most-sent = 255
+abbrev pub most-sent-bits : ℕ
+most-sent-bits = 255
 
 abbrev pub closing : ℕ
 closing = 2

@@ -20,7 +20,7 @@ use refusal::TransferFault;
 
 const MOST_STEPS: usize = 32;
 
-const MOST_SENT: usize = 255;
+const MOST_SENT_BITS: usize = 255;
 // The words that close a transfer: LOAD and END.
 pub(super) const CLOSING: usize = 2;
 
@@ -46,7 +46,7 @@ impl OpenTransfer {
             return Err((self, TransferFault::NoWord));
         };
         let bits = self.bits + usize::from(word.len);
-        if self.steps >= MOST_STEPS || bits > MOST_SENT {
+        if self.steps >= MOST_STEPS || bits > MOST_SENT_BITS {
             return Err((self, TransferFault::Full));
         }
         if buffer.len() < 4 * (bits + CLOSING) {
