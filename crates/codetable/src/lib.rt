@@ -1,4 +1,6 @@
 // Variable-length codewords, and tables of them in which no word is the start of another.
+#![tactic(auto)]
+
 pub mod table;
 pub mod word;
 mod words;

@@ -1,5 +1,7 @@
 // Decodes many pseudo-random cases, and compares what the decoder answers and leaves, with either queue, with what the
 // rules say. Then it does the same for the cases on standard input, one to a line, and prints their answers.
+#![tactic(auto)]
+
 use crate::compare::{Expected, check_call, check_short};
 use crate::examples::{Answer, read_case};
 use crate::random::Random;

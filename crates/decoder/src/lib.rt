@@ -1,4 +1,6 @@
 // The decoder: the best list of words for what was received.
+#![tactic(auto)]
+
 ghost use Rattle.std.specs.Prelude.{◌≡◌, ℕ, ◌<◌, ◌≤◌, length, Some, None, slice_index};
 ghost use Rattle.refusal.specs.Checks.{Judged};
 ghost use Rattle.codetable.specs.Tables.{words};

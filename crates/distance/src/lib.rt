@@ -1,4 +1,6 @@
 // The free distance of a table: how far apart, in bits, its word sequences are.
+#![tactic(auto)]
+
 ghost use Rattle.std.specs.Prelude.{◌≡◌, Some};
 ghost use Rattle.refusal.specs.Checks.{Judged};
 ghost use Rattle.codetable.specs.Tables.{words};

@@ -1,5 +1,7 @@
 // Reads tables from standard input, one to a line, and prints the free distance of each, as either queue finds it.
 // A line has a name, a colon, and the words of the table in bits.
+#![tactic(auto)]
+
 use codetable::CodeTable;
 use distance::free_distance;
 use queue::Queue;

@@ -1,4 +1,6 @@
 // The loader: a table, a take and a pattern memory, changed by commands.
+#![tactic(auto)]
+
 ghost use Rattle.std.specs.Prelude.{◌≡◌};
 ghost use Rattle.loader.specs.Sheets.{Measures, Works, blank, word, weigh, drop, bit, wipe, load, undo};
 ghost use Rattle.loader.specs.Held.{sheet};

@@ -1,5 +1,7 @@
 // Reads a file of commands from standard input, gives them to a loader, and prints a line for each word.
 // An argument chooses the queue: `heap`, which is the default, or `strip`.
+#![tactic(auto)]
+
 use anyhow::anyhow;
 use decoder::WordList;
 use loader::Loader;

@@ -1,4 +1,6 @@
 // The pattern that the box plays, and trying out changes to it.
+#![tactic(auto)]
+
 ghost use Rattle.std.specs.Prelude.{◌≡◌, slice_set};
 ghost use Rattle.refusal.specs.Checks.{Judged};
 ghost use Rattle.refusal.specs.declared.Refusal.TheVariants.{Memory};

@@ -1,4 +1,6 @@
 // Queues: sets of places, each held with one key, that give the least key first.
+#![tactic(auto)]
+
 ghost use Rattle.std.specs.Prelude.{◌≡◌};
 ghost use Rattle.refusal.specs.Checks.{Judged};
 ghost use Rattle.queue.specs.Queues.{Model, Bounded, Same, Emptied, Offered, Looked, Taken, held_count, offer_checks, by_queue};

@@ -1,5 +1,7 @@
 // Drives both queues and a plain reference through one long pseudo-random list of calls, and compares every answer.
 // Then it sorts pseudo-random pairs by each queue, and compares the rows.
+#![tactic(auto)]
+
 use crate::calls::{Answer, Call, Random};
 use crate::reference::Reference;
 use crate::seen::Seen;

@@ -1,4 +1,6 @@
 // Follows the words of a file, one by one, with a loader.
+#![tactic(auto)]
+
 ghost use Rattle.std.specs.Prelude.{◌≡◌};
 ghost use Rattle.loader.specs.Held.{sheet};
 ghost use Rattle.loader.specs.Sheets.{Measures};

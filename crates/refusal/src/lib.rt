@@ -1,4 +1,6 @@
 // The refusals of every layer: one enum for each, and one that holds them all on the way up.
+#![tactic(auto)]
+
 ghost use Rattle.std.specs.Prelude.{◌≡◌, Some};
 ghost use Rattle.refusal.specs.Refusals.{number, layer, layer_name, text};
 ghost use Rattle.refusal.specs.declared.Refusal.{Refusal};

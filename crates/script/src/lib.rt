@@ -1,5 +1,7 @@
 // Reads the text of a script, line by line. A line enters a codeword, `word BITS` or `word BITS WEIGHT`,
 // names a codeword to send, `step NUMBER`, or is blank or a comment, which begins with `#`.
+#![tactic(auto)]
+
 ghost use Rattle.std.specs.Prelude.{◌≡◌, ◌+◌, ◌<◌, ◌≤◌, [], ◌∷◌, length, drop, Some, MatchOption, slice_index_or};
 ghost use Rattle.std.specs.List.{between};
 ghost use Rattle.script.specs.Scan.{stops, FirstAt, at_end};

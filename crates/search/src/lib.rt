@@ -1,4 +1,6 @@
 // A best-first search with estimates, for any map and any queue.
+#![tactic(auto)]
+
 ghost use Rattle.std.specs.Prelude.{◌≡◌, ℕ, ◌+◌, ◌<◌, ◌≤◌, length, Some, None};
 ghost use Rattle.refusal.specs.Checks.{Judged};
 ghost use Rattle.queue.specs.Queues.{tally};

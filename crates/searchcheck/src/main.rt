@@ -1,5 +1,7 @@
 // Searches two small maps with each queue, and prints each answer, what the costs hold, and the least key that waits
 // with its place.
+#![tactic(auto)]
+
 use maps::{Apart, Ties};
 use queue::Queue;
 use queue::heap::Heap;

@@ -1,4 +1,6 @@
 // Follows a text that enters codewords and sends some of them, and accounts for each line.
+#![tactic(auto)]
+
 ghost use Rattle.std.specs.Prelude.{◌≡◌, ◌&&◌, is_ok, Some};
 ghost use Rattle.sender.specs.Reports.{line_text, accepted, all_accepted};
 

@@ -1,5 +1,7 @@
 // Reads a text that enters codewords and sends some of them, and writes the transfer that carries them.
 // With `--file` it writes a whole file for a receiver instead, and its account to standard error.
+#![tactic(auto)]
+
 use anyhow::anyhow;
 use refusal::Refusal;
 use sender::{Account, count_lines, file_image, run};

@@ -1,4 +1,6 @@
 // A transfer: the file words that carry a list of codewords.
+#![tactic(auto)]
+
 mod format;
 mod state;
 

@@ -1,4 +1,6 @@
 // The words of a file: 32 bits each, four bytes with the highest first. The top three bits are the kind.
+#![tactic(auto)]
+
 ghost use Rattle.std.specs.Prelude.{◌≡◌, ◌/◌, ◌^◌, Some, Ok};
 ghost use Rattle.std.specs.List.{slice_get};
 ghost use Rattle.refusal.specs.Checks.{Judged};

@@ -1,4 +1,6 @@
 // Worked examples, as theorems: small tables with their best lists, their free distances and their refusals.
+#![tactic(auto)]
+
 ghost use Rattle.std.specs.Prelude.{◌≡◌};
 ghost use Rattle.worked.specs.Lines.{WorkedLines, case_count};
 
