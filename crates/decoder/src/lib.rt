@@ -52,7 +52,7 @@ fn search_trellis<'a, Q: Queue>(
     requires few { count ≤ most_list }
     requires room { length (values received.now) < length ahead.now }
     requires exact { (j : ℕ) → j ≤ length (values received.now) → slice_index ahead.now j ≡ written (estimate (words table.now) (values received.now) j) }
-    ensures answer { Judged (search_checks (trellis (words table.now) (values received.now) count) (model queue.old) costs.old) by_search result (λ found. Finds (trellis (words table.now) (values received.now) count) found × Leaves (trellis (words table.now) (values received.now) count) (Some found.limit) (model queue.old) (model queue.new) costs.old costs.new) (λ f. Refused f ((queue.new ≡ queue.old) × (costs.new ≡ costs.old)) (Leaves (trellis (words table.now) (values received.now) count) None (model queue.old) (model queue.new) costs.old costs.new)) }
+    ensures answer { Judged (search_checks (trellis (words table.now) (values received.now) count) (Q.model queue.old) costs.old) by_search result (λ found. Finds (trellis (words table.now) (values received.now) count) found × Leaves (trellis (words table.now) (values received.now) count) (Some found.limit) (Q.model queue.old) (Q.model queue.new) costs.old costs.new) (λ f. Refused f ((queue.new ≡ queue.old) × (costs.new ≡ costs.old)) (Leaves (trellis (words table.now) (values received.now) count) None (Q.model queue.old) (Q.model queue.new) costs.old costs.new)) }
 {
     let map = Trellis {
         table,
@@ -76,7 +76,7 @@ pub fn decode<Q: Queue>(
     costs: &mut [u32],
     ahead: &mut [u32],
 ) -> Result<Decoded, SearchFault>
-    ensures answer { Judged (decode_checks (words table.now) (values received.now) count (model queue.old) costs.old ahead.old) by_search result (λ d. Decodes (words table.now) (values received.now) count d × Remains (words table.now) (values received.now) count (Some d.metric) (model queue.old) (model queue.new) costs.old costs.new ahead.old ahead.new) (λ f. Spares f ((queue.new ≡ queue.old) × (costs.new ≡ costs.old) × (ahead.new ≡ ahead.old)) (Remains (words table.now) (values received.now) count None (model queue.old) (model queue.new) costs.old costs.new ahead.old ahead.new)) }
+    ensures answer { Judged (decode_checks (words table.now) (values received.now) count (Q.model queue.old) costs.old ahead.old) by_search result (λ d. Decodes (words table.now) (values received.now) count d × Remains (words table.now) (values received.now) count (Some d.metric) (Q.model queue.old) (Q.model queue.new) costs.old costs.new ahead.old ahead.new) (λ f. Spares f ((queue.new ≡ queue.old) × (costs.new ≡ costs.old) × (ahead.new ≡ ahead.old)) (Remains (words table.now) (values received.now) count None (Q.model queue.old) (Q.model queue.new) costs.old costs.new ahead.old ahead.new)) }
     ensures lists { count ≤ most_list → PathsAreLists (words table.now) (values received.now) count }
     ensures estimates { EstimatesAreLeast (words table.now) (values received.now) }
 {

@@ -26,7 +26,7 @@ pub fn free_distance<Q: Queue>(
     queue: &mut Q,
     costs: &mut [u32],
 ) -> Result<u32, Refusal>
-    ensures answer { Judged (distance_checks (words table.now) (model queue.old) costs.old) (λ f. f) result (λ d. FreeDistance (words table.now) d × Leaves (tails (words table.now)) (Some d) (model queue.old) (model queue.new) costs.old costs.new) (λ f. Refusals f × (queue.new ≡ queue.old) × (costs.new ≡ costs.old)) }
+    ensures answer { Judged (distance_checks (words table.now) (Q.model queue.old) costs.old) (λ f. f) result (λ d. FreeDistance (words table.now) d × Leaves (tails (words table.now)) (Some d) (Q.model queue.old) (Q.model queue.new) costs.old costs.new) (λ f. Refusals f × (queue.new ≡ queue.old) × (costs.new ≡ costs.old)) }
     ensures paths { PathsArePairs (words table.now) }
 {
     if table.len() < 2 {

@@ -95,7 +95,7 @@ impl Loader {
         costs: &mut [u32],
         ahead: &mut [u32],
     ) -> Result<Loaded, Refusal>
-        ensures works { Works (sheet self.old) (load count (model queue.old) (model queue.new) costs.old costs.new ahead.old ahead.new result) (sheet self.new) }
+        ensures works { Works (sheet self.old) (load count (Q.model queue.old) (Q.model queue.new) costs.old costs.new ahead.old ahead.new result) (sheet self.new) }
     {
         let decoded = decode(&self.table, &self.received, count, queue, costs, ahead)?;
         self.earlier = Some(self.patterns.current());
@@ -122,7 +122,7 @@ impl Loader {
 
     // The free distance of the table.
     pub fn free_distance<Q: Queue>(&self, queue: &mut Q, costs: &mut [u32]) -> Result<u32, Refusal>
-        ensures answer { Measures (sheet self.now) (model queue.old) (model queue.new) costs.old costs.new result }
+        ensures answer { Measures (sheet self.now) (Q.model queue.old) (Q.model queue.new) costs.old costs.new result }
     {
         free_distance(&self.table, queue, costs)
     }

@@ -45,7 +45,7 @@ fn load_words<Q: Queue>(
     costs: &mut [u32],
     ahead: &mut [u32],
 ) -> Result<Outcome, Refusal>
-    ensures obeys { Obeys (Entry.Load count) (sheet loader.old) (lent (model queue.old) (model queue.new) costs.old costs.new ahead.old ahead.new) result (sheet loader.new) }
+    ensures obeys { Obeys (Entry.Load count) (sheet loader.old) (lent (Q.model queue.old) (Q.model queue.new) costs.old costs.new ahead.old ahead.new) result (sheet loader.new) }
 {
     match loader.load(usize::from(count), queue, costs, ahead) {
         Ok(loaded) => Ok(Outcome::Loaded(loaded, loader.patterns.current())),
@@ -55,7 +55,7 @@ fn load_words<Q: Queue>(
 
 // END, with the free distance of the table.
 fn measure<Q: Queue>(loader: &Loader, queue: &mut Q, costs: &mut [u32]) -> Result<Outcome, Refusal>
-    ensures measures { OfDistance result (λ x. Measures (sheet loader.now) (model queue.old) (model queue.new) costs.old costs.new x) }
+    ensures measures { OfDistance result (λ x. Measures (sheet loader.now) (Q.model queue.old) (Q.model queue.new) costs.old costs.new x) }
 {
     match loader.free_distance(queue, costs) {
         Ok(distance) => Ok(Outcome::Distance(distance)),
@@ -71,7 +71,7 @@ fn obey<Q: Queue>(
     costs: &mut [u32],
     ahead: &mut [u32],
 ) -> Result<Outcome, Refusal>
-    ensures obeys { Obeys said.now (sheet loader.old) (lent (model queue.old) (model queue.new) costs.old costs.new ahead.old ahead.new) result (sheet loader.new) }
+    ensures obeys { Obeys said.now (sheet loader.old) (lent (Q.model queue.old) (Q.model queue.new) costs.old costs.new ahead.old ahead.new) result (sheet loader.new) }
 {
     match said {
         Entry::End => measure(loader, queue, costs),
@@ -98,7 +98,7 @@ pub fn follow_word<Q: Queue>(
     costs: &mut [u32],
     ahead: &mut [u32],
 ) -> Result<Outcome, PlacedRefusal>
-    ensures follows { Follows place word (sheet loader.old) (lent (model queue.old) (model queue.new) costs.old costs.new ahead.old ahead.new) result (sheet loader.new) }
+    ensures follows { Follows place word (sheet loader.old) (lent (Q.model queue.old) (Q.model queue.new) costs.old costs.new ahead.old ahead.new) result (sheet loader.new) }
 {
     match read_word(word) {
         Ok(entry) => match obey(loader, &entry, queue, costs, ahead) {

@@ -26,10 +26,10 @@ returns-then-size g c =
     let t = c.args.table.now in
     let v = c.args.received.now in
     let len = c.len.ensures.count in
-    let place = c.place-of-size.ensures.place in
+    let place = c.place_of-size.ensures.place in
     let size = c.size.ensures.size in
     let low = c.if-count-lt1.false in
-    let high = c.if-count-gt-MOST-LIST.false in
+    let high = c.if-count-gt-MOST_LIST.false in
     record {
       answer = (
         inr (
@@ -49,37 +49,37 @@ returns-then-size g c =
       estimates = estimates_are_least (words t) t.formed (values v);
     }
 
-pub returns-in-err-found : goal.returns-in-err-found
-returns-in-err-found g c =
+pub returns-in_err-found : goal.returns-in_err-found
+returns-in_err-found g c =
     let t = c.args.table.now in
     let v = c.args.received.now in
     let len = c.len.ensures.count in
     let len' = c.len-else-costs-size.ensures.count in
-    let place = c.place-of-size.ensures.place in
+    let place = c.place_of-size.ensures.place in
     let size = c.size.ensures.size in
     let low = c.if-count-lt1.false in
-    let high = c.if-count-gt-MOST-LIST.false in
+    let high = c.if-count-gt-MOST_LIST.false in
     let s = sound_of t v c.args.count (omega arith) in
-    let refused = c.in-err-found.ensures.answer in
+    let refused = c.in_err-found.ensures.answer in
     record {
-      answer = by_found (words t) (values v) c.args.count s (g.Q.Queue.model c.args.queue.now) (g.Q.Queue.model c.search-trellis.new.queue) c.args.costs.now c.search-trellis.new.costs c.args.ahead.now c.fill-ahead.new.ahead _ _ _ _ (⊎_elim (λ h. omega arith) (λ h. omega arith)) (⊎_elim (λ h. omega (arith, c.if-size.false)) (⊎_elim (λ h. omega (arith, c.if-costs-size.false)) (λ h. omega (arith, c.if-ahead-len.false)))) c.fill-ahead.ensures.ahead c.in-err-found.field-0.0 c.from-residual.result c.from-residual.ensures.0 c.from-residual.ensures.1 refused.0 refused.1;
+      answer = by_found (words t) (values v) c.args.count s (g.Q.Queue.model c.args.queue.now) (g.Q.Queue.model c.search_trellis.new.queue) c.args.costs.now c.search_trellis.new.costs c.args.ahead.now c.fill_ahead.new.ahead _ _ _ _ (⊎_elim (λ h. omega arith) (λ h. omega arith)) (⊎_elim (λ h. omega (arith, c.if-size.false)) (⊎_elim (λ h. omega (arith, c.if-costs-size.false)) (λ h. omega (arith, c.if-ahead-len.false)))) c.fill_ahead.ensures.ahead c.in_err-found.field-0.0 c.from-residual.result c.from-residual.ensures.0 c.from-residual.ensures.1 refused.0 refused.1;
       lists = λ few. paths_are_lists (words t) (values v) c.args.count (sound_of t v c.args.count few);
       estimates = estimates_are_least (words t) t.formed (values v);
     }
 
-pub read-back-changed-requires : goal.read-back-changed-requires
-read-back-changed-requires g c =
-    let found = c.in-ok-found.ensures.answer in
+pub read_back-changed-requires : goal.read_back-changed-requires
+read_back-changed-requires g c =
+    let found = c.in_ok-found.ensures.answer in
     let len = c.len.ensures.count in
-    let place = c.place-of-size.ensures.place in
-    let high = c.if-count-gt-MOST-LIST.false in
+    let place = c.place_of-size.ensures.place in
+    let high = c.if-count-gt-MOST_LIST.false in
     record {
       few = omega arith;
-      room = omega (arith, c.if-costs-size.false, c.search-trellis.auto.costs);
+      room = omega (arith, c.if-costs-size.false, c.search_trellis.auto.costs);
       searched = record {
-        limit = c.in-ok-found.found.limit;
+        limit = c.in_ok-found.found.limit;
         m = g.Q.Queue.model c.args.queue.now;
-        q = g.Q.Queue.model c.search-trellis.new.queue;
+        q = g.Q.Queue.model c.search_trellis.new.queue;
         before = c.args.costs.now;
         leaves = found.1.1;
         least = found.1.0.limit;
@@ -92,26 +92,26 @@ returns g c =
     let v = c.args.received.now in
     let len = c.len.ensures.count in
     let len' = c.len-else-costs-size.ensures.count in
-    let place = c.place-of-size.ensures.place in
+    let place = c.place_of-size.ensures.place in
     let size = c.size.ensures.size in
     let low = c.if-count-lt1.false in
-    let high = c.if-count-gt-MOST-LIST.false in
+    let high = c.if-count-gt-MOST_LIST.false in
     let s = sound_of t v c.args.count (omega arith) in
-    let found = c.in-ok-found.ensures.answer in
-    let best = c.read-back-changed.ensures.best in
+    let found = c.in_ok-found.ensures.answer in
+    let best = c.read_back-changed.ensures.best in
     record {
       answer = (
-        (⊎_elim (λ h. omega arith) (λ h. omega arith), (⊎_elim (λ h. omega (arith, c.if-size.false)) (⊎_elim (λ h. omega (arith, c.if-costs-size.false)) (λ h. omega (arith, c.if-ahead-len.false))), (λ none. none (numbers c.read-back-changed.result.0) best.fits, tt))),
+        (⊎_elim (λ h. omega arith) (λ h. omega arith), (⊎_elim (λ h. omega (arith, c.if-size.false)) (⊎_elim (λ h. omega (arith, c.if-costs-size.false)) (λ h. omega (arith, c.if-ahead-len.false))), (λ none. none (numbers c.read_back-changed.result.0) best.fits, tt))),
         (
           record {
             best = best;
-            its_metric = least_metric (words t) (values v) c.args.count s c.args.count (length (values v)) c.in-ok-found.found.limit (numbers c.read-back-changed.result.0) (omega arith) (omega arith) found.1.0.limit best;
-            its_changed = c.read-back-changed.ensures.changed;
+            its_metric = least_metric (words t) (values v) c.args.count s c.args.count (length (values v)) c.in_ok-found.found.limit (numbers c.read_back-changed.result.0) (omega arith) (omega arith) found.1.0.limit best;
+            its_changed = c.read_back-changed.ensures.changed;
             opened = found.1.0.opened;
             waiting = found.1.0.waiting;
-            corrects = corrects (words t) (values v) c.args.count (numbers c.read-back-changed.result.0) best;
+            corrects = corrects (words t) (values v) c.args.count (numbers c.read_back-changed.result.0) best;
           },
-          record { searched = found.1.1; estimated = c.fill-ahead.ensures.ahead },
+          record { searched = found.1.1; estimated = c.fill_ahead.ensures.ahead },
         ),
       );
       lists = λ few. paths_are_lists (words t) (values v) c.args.count (sound_of t v c.args.count few);

@@ -13,14 +13,14 @@ returns-then-len-lt2 g c =
       paths = paths_are_pairs (words c.args.table.now) (sound c.args.table.now);
     }
 
-pub returns-in-err-found : goal.returns-in-err-found
-returns-in-err-found g c =
+pub returns-in_err-found : goal.returns-in_err-found
+returns-in_err-found g c =
     let ws = words c.args.table.now in
     let s = sound c.args.table.now in
     let len = c.len.ensures.count in
-    let refused = c.in-err-found.ensures.answer in
+    let refused = c.in_err-found.ensures.answer in
     record {
-      answer = by_search ws s (g.Q.Queue.model c.args.queue.now) c.args.costs.now _ _ _ _ (λ few. omega (arith, c.if-len-lt2.false)) c.in-err-found.field-0.0 c.from-residual.result c.from-residual.ensures.0 c.from-residual.ensures.1 refused.0 refused.1;
+      answer = by_search ws s (g.Q.Queue.model c.args.queue.now) c.args.costs.now _ _ _ _ (λ few. omega (arith, c.if-len-lt2.false)) c.in_err-found.field-0.0 c.from-residual.result c.from-residual.ensures.0 c.from-residual.ensures.1 refused.0 refused.1;
       paths = paths_are_pairs ws s;
     }
 
@@ -29,8 +29,8 @@ returns g c =
     let ws = words c.args.table.now in
     let s = sound c.args.table.now in
     let len = c.len.ensures.count in
-    let found = c.in-ok-found.ensures.answer in
+    let found = c.in_ok-found.ensures.answer in
     record {
-      answer = ((λ few. omega (arith, c.if-len-lt2.false), (found.0.0, tt)), (free ws s c.in-ok-found.found.limit found.1.0.limit, found.1.1));
+      answer = ((λ few. omega (arith, c.if-len-lt2.false), (found.0.0, tt)), (free ws s c.in_ok-found.found.limit found.1.0.limit, found.1.1));
       paths = paths_are_pairs ws s;
     }

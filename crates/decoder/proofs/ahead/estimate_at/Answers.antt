@@ -9,14 +9,14 @@ use Rattle.decoder.specs.Estimates.{first_words, estimates, written}
 use Rattle.decoder.specs.Laws.{estimate_step}
 use Rattle.decoder.proofs.Forward.{sum_low, least_past, least_left, least_lower}
 use Rattle.decoder.proofs.ahead.estimate_at.Goals as goal
-use Rattle.decoder.proofs.ahead.estimate_at.Goals.{in-Some+then-next-len+then-ahead-next, in-Some+else-next-len, else-next-len-via-then-next-len+else-ahead-next, else-next-len-via-else-next-len, in-default}
+use Rattle.decoder.proofs.ahead.estimate_at.Goals.{in-Some+then-next-len+then-ahead-next, in-Some+else-next-len, else-next-len-via-then-next-len+else-ahead-next, else-next-len-via-else-next-len, in_default}
 
 pub loop-k-init : goal.loop-k-init
 unfolding first_words
 loop-k-init c = refl
 
-pub overflow-add-word-share : goal.overflow-add-word-share
-overflow-add-word-share c =
+pub overflow_add-word_share : goal.overflow_add-word_share
+overflow_add-word_share c =
     let t = c.args.table.now in
     let s = c.args.received.now in
     let j = c.args.j in
@@ -26,7 +26,7 @@ overflow-add-word-share c =
     let at_k : slice_get (words t) k ≡ Some w = sym c.in-Some.ensures.found in
     let some = (t.formed k w at_k).0 in
     let low = sum_low t s j k n w c.requires.before at_k (omega arith) (get_or c.args.ahead.now n 0) (c.requires.behind n (omega arith) (omega arith)) c.if-ahead-next.true in
-    omega (arith, c.word-share.ensures.share)
+    omega (arith, c.word_share.ensures.share)
 
 pub loop-k-preserved : goal.loop-k-preserved
 loop-k-preserved c =
@@ -54,8 +54,8 @@ loop-k-preserved c =
                 x.least-is ∙ inv ∙ sym same
             | else-next-len-via-else-next-len y ↦ x.least-is ∙ inv ∙ sym (least_past t s j k n w c.requires.before at_k (omega arith) (omega arith))
           ]
-      | in-default x ↦
-          let missing = nth_missing (words t) k (sym x.in-default.ensures.found) in
+      | in_default x ↦
+          let missing = nth_missing (words t) k (sym x.in_default.ensures.found) in
           let len = c.len-k-end.ensures.count in
           absurd (omega arith)
     ]

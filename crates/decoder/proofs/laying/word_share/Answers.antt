@@ -11,15 +11,15 @@ use Rattle.decoder.specs.Metrics.{contradicts, penalty, over}
 use Rattle.decoder.specs.Laws.{over_most, on_scale_drop}
 use Rattle.decoder.proofs.Laid.{contradiction, over_zero, over_more, over_past}
 use Rattle.decoder.proofs.laying.word_share.Goals as goal
-use Rattle.decoder.proofs.laying.word_share.Goals.{in-Some+then-bit-hard-bit, in-Some+else-bit-hard-bit, in-default}
+use Rattle.decoder.proofs.laying.word_share.Goals.{in-Some+then-bit-hard_bit, in-Some+else-bit-hard_bit, in_default}
 
 pub loop-i-init : goal.loop-i-init
 loop-i-init c =
     let none = over_zero penalty (bits c.args.word) (drop c.args.at (values c.args.received.now)) in
     omega (arith, c.from-sum.ensures)
 
-pub overflow-add-sum : goal.overflow-add-sum
-overflow-add-sum c =
+pub overflow_add-sum : goal.overflow_add-sum
+overflow_add-sum c =
     let w = c.args.word in
     let i = c.loop-i.i in
     let vs = values c.args.received.now in
@@ -39,18 +39,18 @@ loop-i-preserved c =
     let inv = c.loop-i.invariant in
     let next : over penalty (take (i + 1) (bits w)) (drop c.args.at vs) ≡ over penalty (take (suc i) (bits w)) (drop c.args.at vs) = ap (λ (n : ℕ). over penalty (take n (bits w)) (drop c.args.at vs)) (add-one i) in
     elim c.match-get.branch [
-      | in-Some+then-bit-hard-bit x ↦
+      | in-Some+then-bit-hard_bit x ↦
           let there : slice_get (drop c.args.at vs) i ≡ Some x.in-Some.soft.value = nth_drop vs c.args.at i ∙ sym x.in-Some.ensures.found in
           let more = over_more penalty (bits w) (drop c.args.at vs) i x.in-Some.soft.value inside there in
-          let adds = cond-true (contradicts (get_or (bits w) i false) x.in-Some.soft.value) (magnitude x.in-Some.soft.value) 0 (contradiction x.in-Some.soft.value x.bit.ensures.value x.hard_bit_of.ensures.sign ∙ x.if-bit-hard-bit.true) in
-          omega (arith, x.sum-is, x.from-sum-then-bit-hard-bit.ensures, x.magnitude.ensures.unsigned)
-      | in-Some+else-bit-hard-bit x ↦
+          let adds = cond-true (contradicts (get_or (bits w) i false) x.in-Some.soft.value) (magnitude x.in-Some.soft.value) 0 (contradiction x.in-Some.soft.value x.bit.ensures.value x.hard_bit.ensures.sign ∙ x.if-bit-hard_bit.true) in
+          omega (arith, x.sum-is, x.from-sum-then-bit-hard_bit.ensures, x.magnitude.ensures.unsigned)
+      | in-Some+else-bit-hard_bit x ↦
           let there : slice_get (drop c.args.at vs) i ≡ Some x.in-Some.soft.value = nth_drop vs c.args.at i ∙ sym x.in-Some.ensures.found in
           let more = over_more penalty (bits w) (drop c.args.at vs) i x.in-Some.soft.value inside there in
-          let adds = cond-false (contradicts (get_or (bits w) i false) x.in-Some.soft.value) (magnitude x.in-Some.soft.value) 0 (contradiction x.in-Some.soft.value x.bit.ensures.value x.hard_bit_of.ensures.sign ∙ x.if-bit-hard-bit.false) in
+          let adds = cond-false (contradicts (get_or (bits w) i false) x.in-Some.soft.value) (magnitude x.in-Some.soft.value) 0 (contradiction x.in-Some.soft.value x.bit.ensures.value x.hard_bit.ensures.sign ∙ x.if-bit-hard_bit.false) in
           omega (arith, x.sum-is)
-      | in-default x ↦
-          let there : slice_get (drop c.args.at vs) i ≡ None = nth_drop vs c.args.at i ∙ sym x.in-default.ensures.found in
+      | in_default x ↦
+          let there : slice_get (drop c.args.at vs) i ≡ None = nth_drop vs c.args.at i ∙ sym x.in_default.ensures.found in
           let same = over_past penalty (bits w) (drop c.args.at vs) i there in
           omega (arith, x.sum-is)
     ]

@@ -6,13 +6,13 @@ use Rattle.codetable.specs.Tables.{words}
 use Rattle.softvalues.specs.Received.{values}
 use Rattle.decoder.specs.Traces.{ComesLast}
 use Rattle.decoder.proofs.trace.last_word.Goals as goal
-use Rattle.decoder.proofs.trace.last_word.Goals.{in-Some+else-len-bits, else-len-bits-via-then-len-bits+else-comes-last, else-len-bits-via-else-len-bits, in-default}
+use Rattle.decoder.proofs.trace.last_word.Goals.{in-Some+else-len-bits, else-len-bits-via-then-len-bits+else-comes_last, else-len-bits-via-else-len-bits, in_default}
 
 pub loop-k-init : goal.loop-k-init
 loop-k-init c k w b lt at_k bits last = omega arith
 
-pub returns-then-comes-last : goal.returns-then-comes-last
-returns-then-comes-last c =
+pub returns-then-comes_last : goal.returns-then-comes_last
+returns-then-comes_last c =
     let w = c.in-Some.word in
     let long = c.from-len.ensures in
     let within = c.if-len-bits.true in
@@ -22,7 +22,7 @@ returns-then-comes-last c =
         there = sym c.in-Some.ensures.found;
         b = c.args.bits - c.from-len.result;
         bits = omega arith;
-        last = c.if-comes-last.ensures.tells;
+        last = c.if-comes_last.ensures.tells;
         lowest = c.loop-k.invariant;
       };
     }
@@ -41,14 +41,14 @@ not_here c n v b same at_n bits last =
           let long = x.from-len.ensures in
           let size : v.len ≡ x.from-len.result = ap (λ (w : Codeword). w.len) word ∙ sym long in
           elim x.else-len-bits.branch [
-            | else-len-bits-via-then-len-bits+else-comes-last y ↦
+            | else-len-bits-via-then-len-bits+else-comes_last y ↦
                 let start : b ≡ c.args.bits - x.from-len.result = omega arith in
-                y.if-comes-last.ensures.tells (subst (λ (w : Codeword). ComesLast vs costs c.args.stage (c.args.bits - x.from-len.result) w) word (subst (λ (m : ℕ). ComesLast vs costs c.args.stage m v) start last))
+                y.if-comes_last.ensures.tells (subst (λ (w : Codeword). ComesLast vs costs c.args.stage (c.args.bits - x.from-len.result) w) word (subst (λ (m : ℕ). ComesLast vs costs c.args.stage m v) start last))
             | else-len-bits-via-else-len-bits y ↦
                 omega (arith, y.if-len-bits.false)
           ]
-      | in-default x ↦
-          let there = x.in-default.ensures.found in
+      | in_default x ↦
+          let there = x.in_default.ensures.found in
           let z : ◌≡◌ {A = ℕ} 0 1 = cc in
           omega arith
     ]

@@ -17,8 +17,8 @@ loop-stage-init c =
     let s = sound_of c.args.table.now c.args.received.now c.args.count c.requires.few in
     subst (λ (n : ℕ). Reading ws vs c.args.count c.args.costs.now _ 0 n c.args.count) (sym c.len-bits.ensures.count) (reading_start ws vs c.args.count s c.args.costs.now c.requires.searched _ refl)
 
-pub last-word-requires : goal.last-word-requires
-last-word-requires c =
+pub last_word-requires : goal.last_word-requires
+last_word-requires c =
     let inv = c.loop-stage.invariant in
     let some = c.loop-stage-test.true in
     let few = inv.few in
@@ -27,8 +27,8 @@ last-word-requires c =
     let room = c.requires.room in
     record { stage = omega arith; bits = within; room = omega arith }
 
-pub overflow-cast-at : goal.overflow-cast-at
-overflow-cast-at c =
+pub overflow_cast-at : goal.overflow_cast-at
+overflow_cast-at c =
     let t = c.args.table.now in
     let l = c.in-Some.ensures.lowest in
     let below = nth_within (words t) c.in-Some.k c.in-Some.word l.there in
@@ -36,14 +36,14 @@ overflow-cast-at c =
     let most = t.room.0 in
     omega arith
 
-pub changed-bits-changed-requires : goal.changed-bits-changed-requires
-changed-bits-changed-requires c =
+pub changed_bits-changed-requires : goal.changed_bits-changed-requires
+changed_bits-changed-requires c =
     let within = c.loop-stage.invariant.within in
     let few = few_values_of c.args.received.now in
     record { near = omega arith }
 
 -- the turn with the word that was found
-next : (c : goal.After-changed-bits-changed) → Reading (words c.args.table.now) (values c.args.received.now) c.args.count c.args.costs.now (set c.loop-stage.at (c.loop-stage.stage - 1) c.in-Some.k) (c.loop-stage.changed + c.changed-bits-changed.result) (c.loop-stage.bits - c.from-bits.result) (c.loop-stage.stage - 1)
+next : (c : goal.After-changed_bits-changed) → Reading (words c.args.table.now) (values c.args.received.now) c.args.count c.args.costs.now (set c.loop-stage.at (c.loop-stage.stage - 1) c.in-Some.k) (c.loop-stage.changed + c.changed_bits-changed.result) (c.loop-stage.bits - c.from-bits.result) (c.loop-stage.stage - 1)
 next c =
     let ws = words c.args.table.now in
     let vs = values c.args.received.now in
@@ -59,12 +59,12 @@ next c =
     let long = c.from-bits.ensures in
     let sum = l.bits in
     let start : l.b ≡ c.loop-stage.bits - c.from-bits.result = omega arith in
-    let count : over changes (bits c.in-Some.word) (drop l.b vs) ≡ c.changed-bits-changed.result = ap (λ (m : ℕ). over changes (bits c.in-Some.word) (drop m vs)) start ∙ sym c.changed-bits-changed.ensures.changed in
+    let count : over changes (bits c.in-Some.word) (drop l.b vs) ≡ c.changed_bits-changed.result = ap (λ (m : ℕ). over changes (bits c.in-Some.word) (drop m vs)) start ∙ sym c.changed_bits-changed.ensures.changed in
     let step = reading_step ws vs n s costs at c.loop-stage.changed c.loop-stage.bits i (c.in-Some.k, c.in-Some.word) here l in
-    subst (λ (m : ℕ). Reading ws vs n costs (set at i c.in-Some.k) (c.loop-stage.changed + c.changed-bits-changed.result) m i) start (subst (λ (m : ℕ). Reading ws vs n costs (set at i c.in-Some.k) (c.loop-stage.changed + m) l.b i) count step)
+    subst (λ (m : ℕ). Reading ws vs n costs (set at i c.in-Some.k) (c.loop-stage.changed + c.changed_bits-changed.result) m i) start (subst (λ (m : ℕ). Reading ws vs n costs (set at i c.in-Some.k) (c.loop-stage.changed + m) l.b i) count step)
 
-pub overflow-add-changed : goal.overflow-add-changed
-overflow-add-changed c =
+pub overflow_add-changed : goal.overflow_add-changed
+overflow_add-changed c =
     let ws = words c.args.table.now in
     let vs = values c.args.received.now in
     let j = c.loop-stage.bits - c.from-bits.result in
@@ -88,10 +88,10 @@ loop-stage-preserved c =
     let some = c.loop-stage-test.true in
     let stage : c.loop-stage.stage ≡ i + 1 = omega arith in
     let here = subst (λ (m : ℕ). Reading ws vs n c.args.costs.now c.loop-stage.at c.loop-stage.changed c.loop-stage.bits m) stage c.loop-stage.invariant in
-    absurd (reading_goes ws vs n s c.args.costs.now c.loop-stage.at c.loop-stage.changed c.loop-stage.bits i here c.in-default.ensures.lowest)
+    absurd (reading_goes ws vs n s c.args.costs.now c.loop-stage.at c.loop-stage.changed c.loop-stage.bits i here c.in_default.ensures.lowest)
 
-pub invariant-of-result : goal.invariant-of-result
-invariant-of-result c = ((c.requires.few, c.loop-stage.invariant.room), tt)
+pub invariant_of-result : goal.invariant_of-result
+invariant_of-result c = ((c.requires.few, c.loop-stage.invariant.room), tt)
 
 pub returns : goal.returns
 returns c =

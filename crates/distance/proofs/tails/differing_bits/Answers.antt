@@ -27,8 +27,8 @@ pub loop-i-init : goal.loop-i-init
 unfolding hamming
 loop-i-init c = refl
 
-pub overflow-add-count : goal.overflow-add-count
-overflow-add-count c =
+pub overflow_add-count : goal.overflow_add-count
+overflow_add-count c =
     let b = c.args.b in
     let i = c.loop-i.i in
     let most = hamming_most (take i (drop c.args.cut (bits c.args.a))) (take i (bits b)) in

@@ -10,11 +10,11 @@ use Rattle.loader.specs.Held.{sheet}
 use Rattle.loader.proofs.Passed.{passed}
 use Rattle.loader.proofs.Loader.drop_word.Goals as goal
 
-pub returns-in-err-pop : goal.returns-in-err-pop
-returns-in-err-pop c =
+pub returns-in_err-pop : goal.returns-in_err-pop
+returns-in_err-pop c =
     let s = sheet c.args.self.now in
     let t : Sheet = with_table s (words c.pop.new.self) in
-    let refused = c.in-err-pop.ensures.answer in
+    let refused = c.in_err-pop.ensures.answer in
     record {
-      works = passed (drop_checks s.table) c.from-residual.result (Table c.in-err-pop.field-0.0) (λ _. t ≡ with_table s (take (length s.table - 1) s.table)) (λ (f : Refusal). (layer f ≡ at.Table) × (t ≡ s)) c.from-residual.ensures.0 c.from-residual.ensures.1 refused.0 (refl, ap (λ (x : CodeTable). with_table s (words x)) refused.1);
+      works = passed (drop_checks s.table) c.from-residual.result (Table c.in_err-pop.field-0.0) (λ _. t ≡ with_table s (take (length s.table - 1) s.table)) (λ (f : Refusal). (layer f ≡ at.Table) × (t ≡ s)) c.from-residual.ensures.0 c.from-residual.ensures.1 refused.0 (refl, ap (λ (x : CodeTable). with_table s (words x)) refused.1);
     }

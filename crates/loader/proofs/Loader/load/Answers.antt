@@ -10,8 +10,8 @@ use Rattle.loader.specs.Held.{sheet}
 use Rattle.loader.proofs.Passed.{passed, spares_as}
 use Rattle.loader.proofs.Loader.load.Goals as goal
 
-pub returns-in-err-decoded : goal.returns-in-err-decoded
-returns-in-err-decoded g c =
+pub returns-in_err-decoded : goal.returns-in_err-decoded
+returns-in_err-decoded g c =
     let s = sheet c.args.self.now in
     let m = g.Q.Queue.model c.args.queue.now in
     let q = g.Q.Queue.model c.decode.new.queue in
@@ -19,19 +19,19 @@ returns-in-err-decoded g c =
     let costs' = c.decode.new.costs in
     let ahead = c.args.ahead.now in
     let ahead' = c.decode.new.ahead in
-    let refused = c.in-err-decoded.ensures.answer in
+    let refused = c.in_err-decoded.ensures.answer in
     record {
-      works = passed (decode_checks s.table s.received c.args.count m costs ahead) c.from-residual.result (Search c.in-err-decoded.field-0.0) (λ d. Loads s c.args.count d s × Remains s.table s.received c.args.count (Some d.metric) m q costs costs' ahead ahead') (λ (f : Refusal). (s ≡ s) × Spared f ((q ≡ m) × (costs' ≡ costs) × (ahead' ≡ ahead)) (Remains s.table s.received c.args.count None m q costs costs' ahead ahead')) c.from-residual.ensures.0 c.from-residual.ensures.1 refused.0 (refl, spares_as c.in-err-decoded.field-0.0 _ ((q ≡ m) × (costs' ≡ costs) × (ahead' ≡ ahead)) (Remains s.table s.received c.args.count None m q costs costs' ahead ahead') (λ same. (ap g.Q.Queue.model same.0, same.1, same.2)) refused.1);
+      works = passed (decode_checks s.table s.received c.args.count m costs ahead) c.from-residual.result (Search c.in_err-decoded.field-0.0) (λ d. Loads s c.args.count d s × Remains s.table s.received c.args.count (Some d.metric) m q costs costs' ahead ahead') (λ (f : Refusal). (s ≡ s) × Spared f ((q ≡ m) × (costs' ≡ costs) × (ahead' ≡ ahead)) (Remains s.table s.received c.args.count None m q costs costs' ahead ahead')) c.from-residual.ensures.0 c.from-residual.ensures.1 refused.0 (refl, spares_as c.in_err-decoded.field-0.0 _ ((q ≡ m) × (costs' ≡ costs) × (ahead' ≡ ahead)) (Remains s.table s.received c.args.count None m q costs costs' ahead ahead') (λ same. (ap g.Q.Queue.model same.0, same.1, same.2)) refused.1);
     }
 
 pub returns : goal.returns
 returns g c =
     let s = sheet c.args.self.now in
     let n = c.args.count in
-    let found = c.in-ok-decoded.ensures.answer in
+    let found = c.in_ok-decoded.ensures.answer in
     let d = found.1.0 in
     -- what is stored is what was decoded
-    let stored : numbers c.in-ok-decoded.decoded.list ≡ numbers c.store.new.self.current = ap numbers (sym c.store.ensures.value) in
+    let stored : numbers c.in_ok-decoded.decoded.list ≡ numbers c.store.new.self.current = ap numbers (sym c.store.ensures.value) in
     let old : Some (numbers c.current.result) ≡ Some s.pattern = ap (λ (l : WordList). Some (numbers l)) c.current.ensures.value in
     record {
       works = (

@@ -11,11 +11,11 @@ use Rattle.loader.specs.Held.{sheet}
 use Rattle.loader.proofs.Passed.{passed}
 use Rattle.loader.proofs.Loader.set_weight.Goals as goal
 
-pub returns-in-err-set-weight : goal.returns-in-err-set-weight
-returns-in-err-set-weight c =
+pub returns-in_err-set_weight : goal.returns-in_err-set_weight
+returns-in_err-set_weight c =
     let s = sheet c.args.self.now in
-    let t : Sheet = with_table s (words c.set-weight.new.self) in
-    let refused = c.in-err-set-weight.ensures.answer in
+    let t : Sheet = with_table s (words c.set_weight.new.self) in
+    let refused = c.in_err-set_weight.ensures.answer in
     record {
-      works = passed (weigh_checks s.table c.args.number) c.from-residual.result (Table c.in-err-set-weight.field-0.0) (λ _. t ≡ with_table s (reweighed s.table c.args.number c.args.weight)) (λ (f : Refusal). (layer f ≡ at.Table) × (t ≡ s)) c.from-residual.ensures.0 c.from-residual.ensures.1 refused.0 (refl, ap (λ (x : CodeTable). with_table s (words x)) refused.1);
+      works = passed (weigh_checks s.table c.args.number) c.from-residual.result (Table c.in_err-set_weight.field-0.0) (λ _. t ≡ with_table s (reweighed s.table c.args.number c.args.weight)) (λ (f : Refusal). (layer f ≡ at.Table) × (t ≡ s)) c.from-residual.ensures.0 c.from-residual.ensures.1 refused.0 (refl, ap (λ (x : CodeTable). with_table s (words x)) refused.1);
     }

@@ -12,7 +12,7 @@ use Rattle.loader.proofs.commands.perform.Goals as goal
 pub returns-in-Word : goal.returns-in-Word
 returns-in-Word g c =
     record {
-      acts = subst (λ (x : Command g.row.Q.Denot). Acts g.Q.Queue.model (sheet c.args.loader.now) x (command.Word c.in-Word.len c.in-Word.value) (answer.Done c.enter-word.result) (sheet c.enter-word.new.self)) (sym c.in-Word.is) (refl, c.enter-word.ensures.works);
+      acts = subst (λ (x : Command g.row.Q.Denot). Acts g.Q.Queue.model (sheet c.args.loader.now) x (command.Word c.in-Word.len c.in-Word.value) (answer.Done c.enter_word.result) (sheet c.enter_word.new.self)) (sym c.in-Word.is) (refl, c.enter_word.ensures.works);
     }
 
 pub returns-in-Load : goal.returns-in-Load
@@ -27,14 +27,14 @@ returns-in-Load g c =
     let costs' = c.load.new.costs in
     let ahead' = c.load.new.ahead in
     let r = c.load.result in
-    let lent = c.as-mut-slice.ensures.value in
-    let lent' = c.as-mut-slice-in-Load.ensures.value in
+    let lent = c.as_mut_slice.ensures.value in
+    let lent' = c.as_mut_slice-in-Load.ensures.value in
     let long : length costs' ≡ length (vec_items costs) = c.load.auto.costs ∙ ap length lent in
     let long' : length ahead' ≡ length (vec_items ahead) = c.load.auto.ahead ∙ ap length lent' in
     let back : vec_items (with_items costs costs') ≡ costs' = with_items_is costs costs' (long ∙ sym costs.ok.0) in
     let back' : vec_items (with_items ahead ahead') ≡ ahead' = with_items_is ahead ahead' (long' ∙ sym ahead.ok.0) in
     let given : Works s (load n m q (vec_items costs) costs' (vec_items ahead) ahead' r) t =
-    subst (λ (l : List ℕ). Works s (load n m q (vec_items costs) costs' l ahead' r) t) lent' (subst (λ (l : List ℕ). Works s (load n m q l costs' c.as-mut-slice-in-Load.result.now ahead' r) t) lent c.load.ensures.works) in
+    subst (λ (l : List ℕ). Works s (load n m q (vec_items costs) costs' l ahead' r) t) lent' (subst (λ (l : List ℕ). Works s (load n m q l costs' c.as_mut_slice-in-Load.result.now ahead' r) t) lent c.load.ensures.works) in
     let left : Works s (load n m q (vec_items costs) (vec_items (with_items costs costs')) (vec_items ahead) (vec_items (with_items ahead ahead')) r) t =
     subst (λ (l : List ℕ). Works s (load n m q (vec_items costs) (vec_items (with_items costs costs')) (vec_items ahead) l r) t) (sym back') (subst (λ (l : List ℕ). Works s (load n m q (vec_items costs) l (vec_items ahead) ahead' r) t) (sym back) given) in
     record {

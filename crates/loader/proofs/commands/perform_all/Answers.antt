@@ -19,8 +19,8 @@ loop-command-init g c =
       },
     )
 
-pub push-reserved-requires : goal.push-reserved-requires
-push-reserved-requires g c =
+pub push_reserved-requires : goal.push_reserved-requires
+push_reserved-requires g c =
     let len = c.loop-command.invariant.0 in
     let cap = c.loop-command.invariant.1 in
     let room = c.if-capacity-commands.false in
@@ -40,9 +40,9 @@ loop-command-preserved g c =
     let less = c.loop-command-test.true in
     let long = c.loop-command.auto.commands in
     let acts : Acts g.Q.Queue.model t item d a u = subst (λ (x : Command g.row.Q.Denot). Acts g.Q.Queue.model t x d a u) (sym c.command-item.is) c.perform-answer.ensures.acts in (
-      omega (arith, c.push-reserved.ensures.len, inv.0),
-      c.push-reserved.ensures.capacity ∙ inv.1,
-      subst (λ (l : List Answer). Sofar g.Q.Queue.model blank before (set now i d) l (i + 1) u) (sym c.push-reserved.ensures.items) (sofar_more g.Q.Queue.model blank t u before now (vec_items c.loop-command.answers) i item d a inv.2 (omega arith) (omega arith) c.command-item.is acts),
+      omega (arith, c.push_reserved.ensures.len, inv.0),
+      c.push_reserved.ensures.capacity ∙ inv.1,
+      subst (λ (l : List Answer). Sofar g.Q.Queue.model blank before (set now i d) l (i + 1) u) (sym c.push_reserved.ensures.items) (sofar_more g.Q.Queue.model blank t u before now (vec_items c.loop-command.answers) i item d a inv.2 (omega arith) (omega arith) c.command-item.is acts),
     )
 
 pub returns : goal.returns

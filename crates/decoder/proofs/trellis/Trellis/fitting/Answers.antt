@@ -5,13 +5,13 @@ use Rattle.softvalues.specs.Received.{values}
 use Rattle.decoder.specs.Trellis.{row}
 use Rattle.decoder.proofs.Rows.{row_fits, row_skips, row_end}
 use Rattle.decoder.proofs.trellis.Trellis.fitting.Goals as goal
-use Rattle.decoder.proofs.trellis.Trellis.fitting.Goals.{in-Some+then-bits-from, in-Some+else-bits-from, in-default}
+use Rattle.decoder.proofs.trellis.Trellis.fitting.Goals.{in-Some+then-bits-from, in-Some+else-bits-from, in_default}
 
 pub loop-k-init : goal.loop-k-init
 loop-k-init c = (zero-le, λ i. zero-add (length (row (words c.args.self.now.table.now) (values c.args.self.now.received.now) i c.args.bits)))
 
-pub overflow-add-count : goal.overflow-add-count
-overflow-add-count c = let few = c.loop-k.invariant.0 in let end = c.loop-k-test.true in omega arith
+pub overflow_add-count : goal.overflow_add-count
+overflow_add-count c = let few = c.loop-k.invariant.0 in let end = c.loop-k-test.true in omega arith
 
 pub loop-k-preserved : goal.loop-k-preserved
 loop-k-preserved c =
@@ -43,8 +43,8 @@ loop-k-preserved c =
                 let before = c.loop-k.invariant.1 i in
                 omega arith,
           )
-      | in-default x ↦
-          let missing = nth_missing ws k (sym x.in-default.ensures.found) in
+      | in_default x ↦
+          let missing = nth_missing ws k (sym x.in_default.ensures.found) in
           let len = c.len-k-end.ensures.count in
           absurd (omega (arith, c.loop-k-test.true))
     ]

@@ -7,7 +7,7 @@ use Rattle.decoder.specs.Estimates.{share}
 use Rattle.decoder.specs.Trellis.{row, trellis_place}
 use Rattle.decoder.proofs.Rows.{row_fits, row_skips, row_end}
 use Rattle.decoder.proofs.trellis.Trellis.step.Goals as goal
-use Rattle.decoder.proofs.trellis.Trellis.step.Goals.{in-Some+then-end-len+else-left-eq0, in-Some+else-end-len, in-default}
+use Rattle.decoder.proofs.trellis.Trellis.step.Goals.{in-Some+then-end-len+else-left-eq0, in-Some+else-end-len, in_default}
 
 -- the first edge of a row, and a later one
 at_front : (e : ℕ × ℕ) (es : List (ℕ × ℕ)) (n : ℕ) → n ≡ 0 → edge-nth (e ∷ es) n ≡ Some e
@@ -30,9 +30,9 @@ returns-then-left-eq0 c =
     let long = c.from.ensures in
     let len = c.len.ensures.count in
     let edge : ℕ × ℕ = (trellis_place (c.args.stage + 1) (c.args.bits + w.len), share w (drop c.args.bits vs)) in
-    let place : c.place-of.result ≡ trellis_place (c.args.stage + 1) (c.args.bits + w.len) = c.place-of.ensures.place ∙ ap (λ (n : ℕ). trellis_place (c.args.stage + 1) (c.args.bits + n)) long in
-    let cost = c.word-share-cost.ensures.share in
-    let same : ◌≡◌ {A = ℕ × ℕ} (c.place-of.result, c.word-share-cost.result) edge = cc in
+    let place : c.place_of.result ≡ trellis_place (c.args.stage + 1) (c.args.bits + w.len) = c.place_of.ensures.place ∙ ap (λ (n : ℕ). trellis_place (c.args.stage + 1) (c.args.bits + n)) long in
+    let cost = c.word_share-cost.ensures.share in
+    let same : ◌≡◌ {A = ℕ × ℕ} (c.place_of.result, c.word_share-cost.result) edge = cc in
     record {
       edge = ap Some same ∙ sym (c.loop-k.invariant ∙ ap (λ (es : List (ℕ × ℕ)). edge-nth es c.loop-k.left) (row_fits ws vs c.args.stage c.args.bits k w there (omega (arith, c.if-end-len.true))) ∙ at_front edge (row (drop (k + 1) ws) vs c.args.stage c.args.bits) c.loop-k.left c.if-left-eq0.true);
     }
@@ -55,8 +55,8 @@ loop-k-preserved c =
           let long = x.from.ensures in
           let len = x.len.ensures.count in
           c.loop-k.invariant ∙ ap (λ (es : List (ℕ × ℕ)). edge-nth es c.loop-k.left) (row_skips ws vs i j k w (sym x.in-Some.ensures.found) (omega (arith, x.if-end-len.false))) ∙ ap (edge-nth (row (drop (k + 1) ws) vs i j)) (sym x.left-is)
-      | in-default x ↦
-          let missing = nth_missing ws k (sym x.in-default.ensures.found) in
+      | in_default x ↦
+          let missing = nth_missing ws k (sym x.in_default.ensures.found) in
           let len = c.len-k-end.ensures.count in
           absurd (omega (arith, c.loop-k-test.true))
     ]

@@ -6,33 +6,33 @@ use Rattle.distance.specs.Steps.{against_at, against_past}
 use Rattle.distance.specs.Laws.{sound}
 use Rattle.distance.proofs.tails.Tails.against.Goals as goal
 
-pub returns-in-err-word : goal.returns-in-err-word
-returns-in-err-word c =
+pub returns-in_err-word : goal.returns-in_err-word
+returns-in_err-word c =
     let t = c.args.tail in
     record {
-      edge = c.from-residual.ensures ∙ sym (against_past t.number t.word t.cut 0 (words c.args.self.now.table) c.args.index (sym c.in-err-word.ensures.found));
+      edge = c.from-residual.ensures ∙ sym (against_past t.number t.word t.cut 0 (words c.args.self.now.table) c.args.index (sym c.in_err-word.ensures.found));
     }
 
 pub compare-requires : goal.compare-requires
 compare-requires c =
     let ws = words c.args.self.now.table in
     let s = sound c.args.self.now.table in
-    let there = sym c.in-ok-word.ensures.found in
-    let below = nth_within ws c.args.index c.in-ok-word.word there in
+    let there = sym c.in_ok-word.ensures.found in
+    let below = nth_within ws c.args.index c.in_ok-word.word there in
     let few = s.few in
     record {
       tail = c.requires.number;
       within = c.requires.within;
       short = c.requires.short;
       word = omega arith;
-      bits = (s.formed c.args.index c.in-ok-word.word there).1;
+      bits = (s.formed c.args.index c.in_ok-word.word there).1;
     }
 
 pub returns : goal.returns
 returns c =
     let t = c.args.tail in
-    let b = c.in-ok-word.word in
+    let b = c.in_ok-word.word in
     let number : c.args.index ≡ 0 + c.args.index = omega arith in
     record {
-      edge = ap Some c.compare.ensures.edge ∙ ap (λ (n : ℕ). Some (compared t.number t.word t.cut n b)) number ∙ sym (against_at t.number t.word t.cut 0 (words c.args.self.now.table) c.args.index b (sym c.in-ok-word.ensures.found));
+      edge = ap Some c.compare.ensures.edge ∙ ap (λ (n : ℕ). Some (compared t.number t.word t.cut n b)) number ∙ sym (against_at t.number t.word t.cut 0 (words c.args.self.now.table) c.args.index b (sym c.in_ok-word.ensures.found));
     }

@@ -10,9 +10,9 @@ use Rattle.distance.proofs.tails.Tails.pair.Goals as goal
 pub loop-number-init : goal.loop-number-init
 loop-number-init c = refl
 
-pub returns-in-err-word : goal.returns-in-err-word
-returns-in-err-word c =
-    let missing = nth_missing (words c.args.self.now.table) c.loop-number.number (sym c.in-err-word.ensures.found) in
+pub returns-in_err-word : goal.returns-in_err-word
+returns-in_err-word c =
+    let missing = nth_missing (words c.args.self.now.table) c.loop-number.number (sym c.in_err-word.ensures.found) in
     let len = c.len-len.ensures.count in
     absurd (omega arith)
 
@@ -24,7 +24,7 @@ against-requires c =
     record {
       number = omega arith;
       within = zero-le;
-      short = (s.formed c.loop-number.number c.in-ok-word.word (sym c.in-ok-word.ensures.found)).1;
+      short = (s.formed c.loop-number.number c.in_ok-word.word (sym c.in_ok-word.ensures.found)).1;
     }
 
 pub returns-then-left-behind : goal.returns-then-left-behind
@@ -32,7 +32,7 @@ returns-then-left-behind c =
     let ws = words c.args.self.now.table in
     let len = c.len-len.ensures.count in
     record {
-      edge = c.against.ensures.edge ∙ sym (c.loop-number.invariant ∙ pair_here ws c.loop-number.number (omega arith) c.in-ok-word.word (sym c.in-ok-word.ensures.found) c.loop-number.left (omega arith));
+      edge = c.against.ensures.edge ∙ sym (c.loop-number.invariant ∙ pair_here ws c.loop-number.number (omega arith) c.in_ok-word.word (sym c.in_ok-word.ensures.found) c.loop-number.left (omega arith));
     }
 
 pub loop-number-preserved : goal.loop-number-preserved

@@ -10,8 +10,8 @@ returns-then-place-eq-START c =
     let all = ap length (from_start ws c.args.place c.if-place-eq-START.true) in
     let twice = twice_pairs 0 ws in
     let len = c.len-len.ensures.count in
-    let less = c.saturating-sub.ensures in
-    let product : c.len-len.result * c.saturating-sub.result ≡ length ws * (length ws - 1) = ap (λ (n : ℕ). c.len-len.result * n) less ∙ ap (λ (n : ℕ). n * (n - 1)) len in
+    let less = c.saturating_sub.ensures in
+    let product : c.len-len.result * c.saturating_sub.result ≡ length ws * (length ws - 1) = ap (λ (n : ℕ). c.len-len.result * n) less ∙ ap (λ (n : ℕ). n * (n - 1)) len in
     record { count = omega arith }
 
 pub returns-in-Some : goal.returns-in-Some
