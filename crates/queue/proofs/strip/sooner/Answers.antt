@@ -3,8 +3,8 @@ use Rattle.queue.specs.Arrays.{Scanned}
 use Rattle.queue.proofs.Scans.{scan_none, scan_less, scan_stays}
 use Rattle.queue.proofs.strip.sooner.Goals as goal
 
-pub returns-in-default : goal.returns-in-default
-returns-in-default c = record { scans = λ key s e. scan_none key c.args.place c.args.best s (e ∙ c.in-default.is) }
+pub returns-in_default : goal.returns-in_default
+returns-in_default c = record { scans = λ key s e. scan_none key c.args.place c.args.best s (e ∙ c.in_default.is) }
 
 pub returns-then-key-least : goal.returns-then-key-least
 returns-then-key-least c =

@@ -19,8 +19,8 @@ cleared s p v lt e =
 taken_some : (m n : Model) (o : Option (ℕ × ℕ)) (a : ℕ × ℕ) → o ≡ Some a → Sets m n a.1 None → Taken m n o
 taken_some m n o a e s = subst (λ (x : Option (ℕ × ℕ)). Taken m n x) (sym e) s
 
-pub offset-bounds-self-place : goal.offset-bounds-self-place
-offset-bounds-self-place c =
+pub offset_bounds-self-place : goal.offset_bounds-self-place
+offset_bounds-self-place c =
     let s = c.args.self.now in
     let below = held_below (strip_model s.inner) (strip_bounded s.inner s.full) c.in-Some.place c.in-Some.field-0-0 c.in-Some.ensures.least.here in
     omega arith
