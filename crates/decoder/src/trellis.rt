@@ -1,7 +1,7 @@
 // The trellis map. Its paths are lists of words laid on what was received: a place is a number of words and of bits so far.
 ghost use Rattle.std.specs.Prelude.{◌≡◌, ℕ, ◌<◌, ◌≤◌, length, slice_index};
 ghost use Rattle.codetable.specs.Tables.{words};
-ghost use Rattle.search.specs.Graphs.{nth as edge-nth};
+ghost use Rattle.search.specs.Graphs.{nth as edge_nth};
 ghost use Rattle.softvalues.specs.Received.{values};
 ghost use Rattle.softvalues.specs.Stored.{most_values};
 ghost use Rattle.decoder.specs.Metrics.{most_list};
@@ -60,7 +60,7 @@ impl Trellis<'_> {
     fn step(&self, stage: usize, bits: usize, index: usize) -> Option<(usize, u32)>
         requires stage { stage < self.now.count }
         requires bits { bits < columns }
-        ensures edge { result ≡ edge-nth (row (words self.now.table.now) (values self.now.received.now) stage bits) index }
+        ensures edge { result ≡ edge_nth (row (words self.now.table.now) (values self.now.received.now) stage bits) index }
     {
         let mut left = index;
         for k in 0..self.table.len() {

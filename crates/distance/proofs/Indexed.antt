@@ -6,7 +6,7 @@ use Rattle.std.proofs.lemmas.Bool.{cond-true, and_from, lt-ltb}
 use Rattle.codetable.specs.declared.word.Codeword.{Codeword}
 use Rattle.codetable.specs.Codewords.{most_bits}
 use Rattle.codetable.proofs.Stored.{nth_there, nth_drop, drop_nth}
-use Rattle.search.specs.Graphs.{nth as edge-nth}
+use Rattle.search.specs.Graphs.{nth as edge_nth}
 use Rattle.distance.specs.declared.tails.Tail.{Tail}
 use Rattle.distance.specs.Tails.{compared, against, pairs, tail_edges}
 use Rattle.distance.specs.Steps.{nth_front, nth_behind, length-against, against_at}
@@ -53,28 +53,28 @@ module _ (ws : List Codeword) (i : ℕ) (lt : i < length ws) (a : Codeword) (at_
   long = let all = length-against i a 0 (suc i) (drop (i + 1) ws) in let rest = length-drop (i + 1) ws in omega arith
 
   -- a pair of word i
-  pub pair_here : (left : ℕ) → left < length ws - 1 - i → edge-nth (pairs i (drop i ws)) left ≡ edge-nth (against i a 0 0 ws) (i + 1 + left)
+  pub pair_here : (left : ℕ) → left < length ws - 1 - i → edge_nth (pairs i (drop i ws)) left ≡ edge_nth (against i a 0 0 ws) (i + 1 + left)
   unfolding row
   pair_here left less =
       let l = long in
       let found = nth_there ws (i + 1 + left) (λ ge. omega arith) in
       let number : suc i + left ≡ 0 + (i + 1 + left) = omega arith in
-      ap (λ (es : List (ℕ × ℕ)). edge-nth es left) split
+      ap (λ (es : List (ℕ × ℕ)). edge_nth es left) split
       ∙ nth_front row (pairs (suc i) (drop (i + 1) ws)) left (omega arith)
       ∙ against_at i a 0 (suc i) (drop (i + 1) ws) left found.0 (nth_drop ws (i + 1) left ∙ found.1)
       ∙ ap (λ (n : ℕ). Some (compared i a 0 n found.0)) number
       ∙ sym (against_at i a 0 0 ws (i + 1 + left) found.0 found.1)
 
   -- a pair of the words behind it
-  pub pair_behind : (left : ℕ) → length ws - 1 - i ≤ left → edge-nth (pairs i (drop i ws)) left ≡ edge-nth (pairs (i + 1) (drop (i + 1) ws)) (left - (length ws - 1 - i))
+  pub pair_behind : (left : ℕ) → length ws - 1 - i ≤ left → edge_nth (pairs i (drop i ws)) left ≡ edge_nth (pairs (i + 1) (drop (i + 1) ws)) (left - (length ws - 1 - i))
   pair_behind left more =
       let l = long in
       let place : left ≡ length row + (left - (length ws - 1 - i)) = omega arith in
       let number : suc i ≡ i + 1 = omega arith in
-      ap (λ (es : List (ℕ × ℕ)). edge-nth es left) split
+      ap (λ (es : List (ℕ × ℕ)). edge_nth es left) split
       ∙ nth_behind row (pairs (suc i) (drop (i + 1) ws)) (left - (length ws - 1 - i)) left place
-      ∙ ap (λ (n : ℕ). edge-nth (pairs n (drop (i + 1) ws)) (left - (length ws - 1 - i))) number
+      ∙ ap (λ (n : ℕ). edge_nth (pairs n (drop (i + 1) ws)) (left - (length ws - 1 - i))) number
 
-pub pair_none : (ws : List Codeword) (i left : ℕ) → length ws ≤ i → edge-nth (pairs i (drop i ws)) left ≡ None
+pub pair_none : (ws : List Codeword) (i left : ℕ) → length ws ≤ i → edge_nth (pairs i (drop i ws)) left ≡ None
 unfolding pairs
-pair_none ws i left past = ap (λ (rest : List Codeword). edge-nth (pairs i rest) left) (drop_all i ws past)
+pair_none ws i left past = ap (λ (rest : List Codeword). edge_nth (pairs i rest) left) (drop_all i ws past)

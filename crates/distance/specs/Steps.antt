@@ -7,7 +7,7 @@ use Rattle.std.proofs.lemmas.Bool.{cases_lt, cases_Bool, cond-true, cond-false, 
 use Rattle.codetable.specs.declared.word.Codeword.{Codeword}
 use Rattle.codetable.specs.Codewords.{most_bits}
 use Rattle.codetable.proofs.Stored.{nth_within}
-use Rattle.search.specs.Graphs.{Edge, nth as edge-nth}
+use Rattle.search.specs.Graphs.{Edge, nth as edge_nth}
 use Rattle.distance.specs.Tails.{tails, tail_place, start_place, compared, against, pairs, tail_edges, edges_from}
 
 -- word i without its first c bits is compared with word j: that leads to place q at cost d
@@ -24,13 +24,13 @@ pub data Step (ws : List Codeword) : ℕ → ℕ → ℕ → Type 0 where
   later : {i c j q d : ℕ} → 0 < c → (m : Compares ws i c j q d) → c < m.a.len → Step ws (tail_place i c) q d
 
 -- the edge at an index of one row behind another
-pub nth_front : (xs ys : List (ℕ × ℕ)) (k : ℕ) → k < length xs → edge-nth (xs ++ ys) k ≡ edge-nth xs k
+pub nth_front : (xs ys : List (ℕ × ℕ)) (k : ℕ) → k < length xs → edge_nth (xs ++ ys) k ≡ edge_nth xs k
 nth_front [] ys k lt = absurd (omega arith)
 nth_front (x ∷ xs) ys zero lt = refl
 nth_front (x ∷ xs) ys (suc k) lt = nth_front xs ys k (omega arith)
 
-pub nth_behind : (xs ys : List (ℕ × ℕ)) (k m : ℕ) → m ≡ length xs + k → edge-nth (xs ++ ys) m ≡ edge-nth ys k
-nth_behind [] ys k m e = let same : m ≡ k = omega arith in ap (edge-nth ys) same
+pub nth_behind : (xs ys : List (ℕ × ℕ)) (k m : ℕ) → m ≡ length xs + k → edge_nth (xs ++ ys) m ≡ edge_nth ys k
+nth_behind [] ys k m e = let same : m ≡ k = omega arith in ap (edge_nth ys) same
 nth_behind (x ∷ xs) ys k zero e = absurd (omega arith)
 nth_behind (x ∷ xs) ys k (suc m) e = nth_behind xs ys k m (omega arith)
 
@@ -40,7 +40,7 @@ length-against i a c j [] = refl
 length-against i a c j (b ∷ bs) = ap suc (length-against i a c (suc j) bs)
 
 -- a tail against each word: the edge at index k is that of word j + k
-pub against_at : (i : ℕ) (a : Codeword) (c j : ℕ) (bs : List Codeword) (k : ℕ) (b : Codeword) → slice_get bs k ≡ Some b → edge-nth (against i a c j bs) k ≡ Some (compared i a c (j + k) b)
+pub against_at : (i : ℕ) (a : Codeword) (c j : ℕ) (bs : List Codeword) (k : ℕ) (b : Codeword) → slice_get bs k ≡ Some b → edge_nth (against i a c j bs) k ≡ Some (compared i a c (j + k) b)
 unfolding against
 against_at i a c j [] k b e = let z : ◌≡◌ {A = ℕ} 0 1 = cc in absurd (omega arith)
 against_at i a c j (x ∷ bs) zero b e =
@@ -51,7 +51,7 @@ against_at i a c j (x ∷ bs) (suc k) b e =
     let number : suc j + k ≡ j + suc k = omega arith in
     against_at i a c (suc j) bs k b e ∙ ap (λ (n : ℕ). Some (compared i a c n b)) number
 
-pub against_past : (i : ℕ) (a : Codeword) (c j : ℕ) (bs : List Codeword) (k : ℕ) → slice_get bs k ≡ None → edge-nth (against i a c j bs) k ≡ None
+pub against_past : (i : ℕ) (a : Codeword) (c j : ℕ) (bs : List Codeword) (k : ℕ) → slice_get bs k ≡ None → edge_nth (against i a c j bs) k ≡ None
 unfolding against
 against_past i a c j [] k e = refl
 against_past i a c j (x ∷ bs) zero e = let z : ◌≡◌ {A = ℕ} 0 1 = cc in absurd (omega arith)
@@ -61,7 +61,7 @@ word_or_none : (o : Option Codeword) → (o ≡ None) ⊎ ((b : Codeword) × (o 
 word_or_none None = inl refl
 word_or_none (Some b) = inr (b, refl)
 
-against_from : (i : ℕ) (a : Codeword) (c j : ℕ) (bs : List Codeword) (k : ℕ) (e : ℕ × ℕ) → edge-nth (against i a c j bs) k ≡ Some e → (b : Codeword) × (slice_get bs k ≡ Some b) × (e ≡ compared i a c (j + k) b)
+against_from : (i : ℕ) (a : Codeword) (c j : ℕ) (bs : List Codeword) (k : ℕ) (e : ℕ × ℕ) → edge_nth (against i a c j bs) k ≡ Some e → (b : Codeword) × (slice_get bs k ≡ Some b) × (e ≡ compared i a c (j + k) b)
 against_from i a c j bs k e is =
     ⊎_elim
     (λ none. let past = against_past i a c j bs k none in let z : ◌≡◌ {A = ℕ} 0 1 = cc in absurd (omega arith))
@@ -82,7 +82,7 @@ record Paired (i : ℕ) (ws : List Codeword) (e : ℕ × ℕ) : Type 0 where
   at_y : slice_get ws y ≡ Some b
   leads : e ≡ compared (i + x) a 0 (i + y) b
 
-pairs_from : (i : ℕ) (ws : List Codeword) (m : ℕ) (e : ℕ × ℕ) → edge-nth (pairs i ws) m ≡ Some e → Paired i ws e
+pairs_from : (i : ℕ) (ws : List Codeword) (m : ℕ) (e : ℕ × ℕ) → edge_nth (pairs i ws) m ≡ Some e → Paired i ws e
 unfolding pairs
 pairs_from i [] m e is = let z : ◌≡◌ {A = ℕ} 0 1 = cc in absurd (omega arith)
 pairs_from i (a ∷ ws) m e is =
@@ -119,7 +119,7 @@ pairs_from i (a ∷ ws) m e is =
     })
     (cases_lt m (length row))
 
-pairs_at : (i : ℕ) (ws : List Codeword) (x y : ℕ) (a b : Codeword) → x < y → slice_get ws x ≡ Some a → slice_get ws y ≡ Some b → (m : ℕ) × (edge-nth (pairs i ws) m ≡ Some (compared (i + x) a 0 (i + y) b))
+pairs_at : (i : ℕ) (ws : List Codeword) (x y : ℕ) (a b : Codeword) → x < y → slice_get ws x ≡ Some a → slice_get ws y ≡ Some b → (m : ℕ) × (edge_nth (pairs i ws) m ≡ Some (compared (i + x) a 0 (i + y) b))
 unfolding pairs
 pairs_at i [] x y a b lt at_x at_y = let z : ◌≡◌ {A = ℕ} 0 1 = cc in absurd (omega arith)
 pairs_at i (w ∷ ws) x zero a b lt at_x at_y = absurd (omega arith)
@@ -148,7 +148,7 @@ pub from_other : (ws : List Codeword) (p : ℕ) → (p ≢ start_place) → edge
 unfolding edges_from
 from_other ws p ne = cond-false (p == start_place) (pairs 0 ws) (tail_edges ws (p / most_bits) (p % most_bits) (slice_get ws (p / most_bits))) (ne_eqb p start_place ne)
 
-tail_step : (ws : List Codeword) (i c k : ℕ) (o : Option Codeword) (q d : ℕ) → slice_get ws i ≡ o → edge-nth (tail_edges ws i c o) k ≡ Some (q, d) → Step ws (tail_place i c) q d
+tail_step : (ws : List Codeword) (i c k : ℕ) (o : Option Codeword) (q d : ℕ) → slice_get ws i ≡ o → edge_nth (tail_edges ws i c o) k ≡ Some (q, d) → Step ws (tail_place i c) q d
 tail_step ws i c k None q d at_i is = let z : ◌≡◌ {A = ℕ} 0 1 = cc in absurd (omega arith)
 tail_step ws i c k (Some a) q d at_i is =
     let test = nat_lt 0 c && ltb c a.len in
@@ -156,12 +156,12 @@ tail_step ws i c k (Some a) q d at_i is =
     (λ t.
     let parts = and_parts (nat_lt 0 c) (nat_lt c a.len) t in
     let row = cond-true test (against i a c 0 ws) [] t in
-    let found = against_from i a c 0 ws k (q, d) (ap (λ (es : List (ℕ × ℕ)). edge-nth es k) (sym row) ∙ is) in
+    let found = against_from i a c 0 ws k (q, d) (ap (λ (es : List (ℕ × ℕ)). edge_nth es k) (sym row) ∙ is) in
     let number : 0 + k ≡ k = omega arith in
     later {j = k} (ltb-true 0 c parts.0) (record { a = a; b = found.0; at_i = at_i; at_j = found.1; leads = found.2 ∙ ap (λ (n : ℕ). compared i a c n found.0) number }) (ltb-true c a.len parts.1))
     (λ f.
     let row = cond-false test (against i a c 0 ws) [] f in
-    let none : edge-nth [] k ≡ Some (q, d) = ap (λ (es : List (ℕ × ℕ)). edge-nth es k) (sym row) ∙ is in
+    let none : edge_nth [] k ≡ Some (q, d) = ap (λ (es : List (ℕ × ℕ)). edge_nth es k) (sym row) ∙ is in
     let z : ◌≡◌ {A = ℕ} 0 1 = cc in
     absurd (omega arith))
     (cases_Bool test)
@@ -172,13 +172,13 @@ stepped ws p q d e =
     ⊎_elim
     (λ t.
     let same = eqb-true p start_place t in
-    let found = pairs_from 0 ws e.0 (q, d) (ap (λ (es : List (ℕ × ℕ)). edge-nth es e.0) (sym (from_start ws p same)) ∙ e.1) in
+    let found = pairs_from 0 ws e.0 (q, d) (ap (λ (es : List (ℕ × ℕ)). edge_nth es e.0) (sym (from_start ws p same)) ∙ e.1) in
     let one : 0 + found.x ≡ found.x = omega arith in
     let other : 0 + found.y ≡ found.y = omega arith in
     subst (λ (n : ℕ). Step ws n q d) (sym same) (first {i = found.x} {j = found.y} found.order (record { a = found.a; b = found.b; at_i = found.at_x; at_j = found.at_y; leads = found.leads ∙ ap (λ (n : ℕ). compared n found.a 0 (0 + found.y) found.b) one ∙ ap (λ (n : ℕ). compared found.x found.a 0 n found.b) other })))
     (λ f.
     let other = from_other ws p (eqb-false p start_place f) in
-    let found = tail_step ws (p / most_bits) (p % most_bits) e.0 (slice_get ws (p / most_bits)) q d refl (ap (λ (es : List (ℕ × ℕ)). edge-nth es e.0) (sym other) ∙ e.1) in
+    let found = tail_step ws (p / most_bits) (p % most_bits) e.0 (slice_get ws (p / most_bits)) q d refl (ap (λ (es : List (ℕ × ℕ)). edge_nth es e.0) (sym other) ∙ e.1) in
     subst (λ (n : ℕ). Step ws n q d) (div-add-mod' p most_bits) found)
     (cases_Bool (p == start_place))
 
@@ -188,7 +188,7 @@ first_edge ws i j a b lt at_i at_j =
     let found = pairs_at 0 ws i j a b lt at_i at_j in
     let one : 0 + i ≡ i = omega arith in
     let other : 0 + j ≡ j = omega arith in
-    (found.0, ap (λ (es : List (ℕ × ℕ)). edge-nth es found.0) (from_start ws start_place refl) ∙ found.1 ∙ ap (λ (n : ℕ). Some (compared n a 0 (0 + j) b)) one ∙ ap (λ (n : ℕ). Some (compared i a 0 n b)) other)
+    (found.0, ap (λ (es : List (ℕ × ℕ)). edge_nth es found.0) (from_start ws start_place refl) ∙ found.1 ∙ ap (λ (n : ℕ). Some (compared n a 0 (0 + j) b)) one ∙ ap (λ (n : ℕ). Some (compared i a 0 n b)) other)
 
 pub later_edge : (ws : List Codeword) (i c j : ℕ) (a b : Codeword) → 0 < c → c < a.len → a.len ≤ most_bits → slice_get ws i ≡ Some a → slice_get ws j ≡ Some b → Edge (tails ws) (tail_place i c) (compared i a c j b).0 (compared i a c j b).1
 later_edge ws i c j a b some less most at_i at_j =
@@ -202,4 +202,4 @@ later_edge ws i c j a b some less most at_i at_j =
     let known : tail_edges ws i c (slice_get ws i) ≡ tail_edges ws i c (Some a) = ap (tail_edges ws i c) at_i in
     let test = cond-true (nat_lt 0 c && nat_lt c a.len) (against i a c 0 ws) [] (and_from (nat_lt 0 c) (nat_lt c a.len) (lt-ltb 0 c some) (lt-ltb c a.len less)) in
     let number : 0 + j ≡ j = omega arith in
-    (j, ap (λ (es : List (ℕ × ℕ)). edge-nth es j) (from_other ws (tail_place i c) apart ∙ row ∙ known ∙ test) ∙ against_at i a c 0 ws j b at_j ∙ ap (λ (n : ℕ). Some (compared i a c n b)) number)
+    (j, ap (λ (es : List (ℕ × ℕ)). edge_nth es j) (from_other ws (tail_place i c) apart ∙ row ∙ known ∙ test) ∙ against_at i a c 0 ws j b at_j ∙ ap (λ (n : ℕ). Some (compared i a c n b)) number)

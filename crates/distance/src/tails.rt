@@ -3,7 +3,7 @@
 ghost use Rattle.std.specs.Prelude.{◌≡◌, ◌≤◌, drop, MatchOption};
 ghost use Rattle.codetable.specs.Codewords.{bits, most_bits, most_words};
 ghost use Rattle.codetable.specs.Tables.{words};
-ghost use Rattle.search.specs.Graphs.{nth as edge-nth};
+ghost use Rattle.search.specs.Graphs.{nth as edge_nth};
 ghost use Rattle.distance.specs.Distances.{hamming};
 ghost use Rattle.distance.specs.Tails.{tails, tail_place, compared, against, pairs};
 ghost use Rattle.distance.specs.Laws.{tails_lawful, sound};
@@ -102,7 +102,7 @@ impl Tails {
         requires number { tail.number ≤ most_words }
         requires within { tail.cut ≤ tail.word.len }
         requires short { tail.word.len ≤ most_bits }
-        ensures edge { result ≡ edge-nth (against tail.number tail.word tail.cut 0 (words self.now.table)) index }
+        ensures edge { result ≡ edge_nth (against tail.number tail.word tail.cut 0 (words self.now.table)) index }
     {
         let word = self.table.word(index)?;
         Some(tail.compare(index, word))
@@ -110,7 +110,7 @@ impl Tails {
 
     // The pair at an index: those of the first word with each behind it come first, and then those of the next.
     fn pair(&self, index: usize) -> Option<(usize, u32)>
-        ensures edge { result ≡ edge-nth (pairs 0 (words self.now.table)) index }
+        ensures edge { result ≡ edge_nth (pairs 0 (words self.now.table)) index }
     {
         let len = self.table.len();
         let mut left = index;

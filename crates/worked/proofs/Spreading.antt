@@ -4,7 +4,7 @@ use Rattle.std.proofs.lemmas.Bool.{and_parts, leb-true, eqb-true, not-true, both
 use Rattle.codetable.specs.declared.word.Codeword.{Codeword}
 use Rattle.codetable.specs.Codewords.{most_words}
 use Rattle.codetable.specs.Sequences.{joined_bits}
-use Rattle.search.specs.Graphs.{Path, here, on, nth as edge-nth}
+use Rattle.search.specs.Graphs.{Path, here, on, nth as edge_nth}
 use Rattle.distance.specs.Distances.{distance, Rivals, FreeDistance}
 use Rattle.distance.specs.Tails.{tails, place_count, start_place, finish_place, edges_from}
 use Rattle.distance.specs.Laws.{Sound, tails_lawful}
@@ -22,7 +22,7 @@ unfoldable pub edges? : (ℕ → ℕ) → ℕ → List (ℕ × ℕ) → Bool
 edges? f n [] = true
 edges? f n (e ∷ es) = leb (f e.0) (n + e.1) && edges? f n es
 
-at_edges : (f : ℕ → ℕ) (n : ℕ) (es : List (ℕ × ℕ)) → edges? f n es ≡ true → (i q c : ℕ) → edge-nth es i ≡ Some (q, c) → f q ≤ n + c
+at_edges : (f : ℕ → ℕ) (n : ℕ) (es : List (ℕ × ℕ)) → edges? f n es ≡ true → (i q c : ℕ) → edge_nth es i ≡ Some (q, c) → f q ≤ n + c
 unfolding edges?
 at_edges f n [] ok i q c is = let z : ◌≡◌ {A = ℕ} 0 1 = cc in absurd (omega arith)
 at_edges f n (e ∷ es) ok zero q c is =

@@ -1,7 +1,7 @@
 use Rattle.std.proofs.Common.{◌≡◌, ℕ, zero, suc, ◌+◌, ◌-◌, List, ◌∷◌, drop, Some, sym, refl, ap, ◌∙◌, arith}
 use Rattle.codetable.specs.Tables.{words}
 use Rattle.codetable.proofs.Stored.{nth_missing}
-use Rattle.search.specs.Graphs.{nth as edge-nth}
+use Rattle.search.specs.Graphs.{nth as edge_nth}
 use Rattle.softvalues.specs.Received.{values}
 use Rattle.decoder.specs.Estimates.{share}
 use Rattle.decoder.specs.Trellis.{row, trellis_place}
@@ -10,12 +10,12 @@ use Rattle.decoder.proofs.trellis.Trellis.step.Goals as goal
 use Rattle.decoder.proofs.trellis.Trellis.step.Goals.{in-Some+then-end-len+else-left-eq0, in-Some+else-end-len, in_default}
 
 -- the first edge of a row, and a later one
-at_front : (e : ℕ × ℕ) (es : List (ℕ × ℕ)) (n : ℕ) → n ≡ 0 → edge-nth (e ∷ es) n ≡ Some e
-at_front e es n none = ap (edge-nth (e ∷ es)) none
+at_front : (e : ℕ × ℕ) (es : List (ℕ × ℕ)) (n : ℕ) → n ≡ 0 → edge_nth (e ∷ es) n ≡ Some e
+at_front e es n none = ap (edge_nth (e ∷ es)) none
 
-at_later : (e : ℕ × ℕ) (es : List (ℕ × ℕ)) (n : ℕ) → (n ≡ 0 → ⊥) → edge-nth (e ∷ es) n ≡ edge-nth es (n - 1)
+at_later : (e : ℕ × ℕ) (es : List (ℕ × ℕ)) (n : ℕ) → (n ≡ 0 → ⊥) → edge_nth (e ∷ es) n ≡ edge_nth es (n - 1)
 at_later e es zero some = absurd (some refl)
-at_later e es (suc n) some = let back : n ≡ suc n - 1 = omega arith in ap (edge-nth es) back
+at_later e es (suc n) some = let back : n ≡ suc n - 1 = omega arith in ap (edge_nth es) back
 
 pub loop-k-init : goal.loop-k-init
 loop-k-init c = refl
@@ -34,7 +34,7 @@ returns-then-left-eq0 c =
     let cost = c.word_share-cost.ensures.share in
     let same : ◌≡◌ {A = ℕ × ℕ} (c.place_of.result, c.word_share-cost.result) edge = cc in
     record {
-      edge = ap Some same ∙ sym (c.loop-k.invariant ∙ ap (λ (es : List (ℕ × ℕ)). edge-nth es c.loop-k.left) (row_fits ws vs c.args.stage c.args.bits k w there (omega (arith, c.if-end-len.true))) ∙ at_front edge (row (drop (k + 1) ws) vs c.args.stage c.args.bits) c.loop-k.left c.if-left-eq0.true);
+      edge = ap Some same ∙ sym (c.loop-k.invariant ∙ ap (λ (es : List (ℕ × ℕ)). edge_nth es c.loop-k.left) (row_fits ws vs c.args.stage c.args.bits k w there (omega (arith, c.if-end-len.true))) ∙ at_front edge (row (drop (k + 1) ws) vs c.args.stage c.args.bits) c.loop-k.left c.if-left-eq0.true);
     }
 
 pub loop-k-preserved : goal.loop-k-preserved
@@ -49,12 +49,12 @@ loop-k-preserved c =
           let w = x.in-Some.word in
           let long = x.from.ensures in
           let len = x.len.ensures.count in
-          c.loop-k.invariant ∙ ap (λ (es : List (ℕ × ℕ)). edge-nth es c.loop-k.left) (row_fits ws vs i j k w (sym x.in-Some.ensures.found) (omega (arith, x.if-end-len.true))) ∙ at_later (trellis_place (i + 1) (j + w.len), share w (drop j vs)) (row (drop (k + 1) ws) vs i j) c.loop-k.left x.if-left-eq0.false ∙ ap (edge-nth (row (drop (k + 1) ws) vs i j)) (sym x.left-is)
+          c.loop-k.invariant ∙ ap (λ (es : List (ℕ × ℕ)). edge_nth es c.loop-k.left) (row_fits ws vs i j k w (sym x.in-Some.ensures.found) (omega (arith, x.if-end-len.true))) ∙ at_later (trellis_place (i + 1) (j + w.len), share w (drop j vs)) (row (drop (k + 1) ws) vs i j) c.loop-k.left x.if-left-eq0.false ∙ ap (edge_nth (row (drop (k + 1) ws) vs i j)) (sym x.left-is)
       | in-Some+else-end-len x ↦
           let w = x.in-Some.word in
           let long = x.from.ensures in
           let len = x.len.ensures.count in
-          c.loop-k.invariant ∙ ap (λ (es : List (ℕ × ℕ)). edge-nth es c.loop-k.left) (row_skips ws vs i j k w (sym x.in-Some.ensures.found) (omega (arith, x.if-end-len.false))) ∙ ap (edge-nth (row (drop (k + 1) ws) vs i j)) (sym x.left-is)
+          c.loop-k.invariant ∙ ap (λ (es : List (ℕ × ℕ)). edge_nth es c.loop-k.left) (row_skips ws vs i j k w (sym x.in-Some.ensures.found) (omega (arith, x.if-end-len.false))) ∙ ap (edge_nth (row (drop (k + 1) ws) vs i j)) (sym x.left-is)
       | in_default x ↦
           let missing = nth_missing ws k (sym x.in_default.ensures.found) in
           let len = c.len-k-end.ensures.count in
@@ -67,5 +67,5 @@ returns c =
     let vs = values c.args.self.now.received.now in
     let len = c.len-k-end.ensures.count in
     record {
-      edge = sym (c.loop-k.invariant ∙ ap (λ (es : List (ℕ × ℕ)). edge-nth es c.loop-k.left) (row_end ws vs c.args.stage c.args.bits c.loop-k.k (omega (arith, c.loop-k-test.false))));
+      edge = sym (c.loop-k.invariant ∙ ap (λ (es : List (ℕ × ℕ)). edge_nth es c.loop-k.left) (row_end ws vs c.args.stage c.args.bits c.loop-k.k (omega (arith, c.loop-k-test.false))));
     }

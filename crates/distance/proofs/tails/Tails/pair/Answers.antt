@@ -1,7 +1,7 @@
 use Rattle.std.proofs.Common.{◌≡◌, ◌+◌, ◌-◌, length, drop, sym, refl, ap, ◌∙◌, zero-le, arith}
 use Rattle.codetable.specs.Tables.{words}
 use Rattle.codetable.proofs.Stored.{nth_there, nth_missing}
-use Rattle.search.specs.Graphs.{nth as edge-nth}
+use Rattle.search.specs.Graphs.{nth as edge_nth}
 use Rattle.distance.specs.Tails.{pairs}
 use Rattle.distance.specs.Laws.{sound}
 use Rattle.distance.proofs.Indexed.{pair_here, pair_behind, pair_none}
@@ -42,7 +42,7 @@ loop-number-preserved c =
     let number = c.loop-number.number in
     let found = nth_there ws number (λ ge. omega arith) in
     let behind : c.loop-number.left - (length ws - 1 - number) ≡ c.loop-number.left - (c.len-len.result - 1 - number) = omega arith in
-    c.loop-number.invariant ∙ pair_behind ws number (omega arith) found.0 found.1 c.loop-number.left (omega arith) ∙ ap (edge-nth (pairs (number + 1) (drop (number + 1) ws))) behind
+    c.loop-number.invariant ∙ pair_behind ws number (omega arith) found.0 found.1 c.loop-number.left (omega arith) ∙ ap (edge_nth (pairs (number + 1) (drop (number + 1) ws))) behind
 
 pub returns : goal.returns
 returns c =

@@ -1,7 +1,7 @@
 use Rattle.std.proofs.Common.{ℕ, List, sym, ap, ◌∙◌, arith}
 use Rattle.codetable.specs.Tables.{words}
 use Rattle.codetable.proofs.Stored.{nth_within}
-use Rattle.search.specs.Graphs.{nth as edge-nth}
+use Rattle.search.specs.Graphs.{nth as edge_nth}
 use Rattle.distance.specs.Laws.{sound}
 use Rattle.distance.specs.Steps.{from_start, from_other}
 use Rattle.distance.proofs.Indexed.{tail_row}
@@ -11,7 +11,7 @@ pub returns-then-place-eq-START : goal.returns-then-place-eq-START
 returns-then-place-eq-START c =
     let ws = words c.args.self.now.table in
     record {
-      edge = c.pair.ensures.edge ∙ sym (ap (λ (es : List (ℕ × ℕ)). edge-nth es c.args.index) (from_start ws c.args.place c.if-place-eq-START.true));
+      edge = c.pair.ensures.edge ∙ sym (ap (λ (es : List (ℕ × ℕ)). edge_nth es c.args.index) (from_start ws c.args.place c.if-place-eq-START.true));
     }
 
 pub against-requires : goal.against-requires
@@ -29,12 +29,12 @@ returns-in-Some c =
     let ws = words c.args.self.now.table in
     let t = c.in-Some.tail in
     record {
-      edge = c.against.ensures.edge ∙ sym (ap (λ (es : List (ℕ × ℕ)). edge-nth es c.args.index) (from_other ws c.args.place c.if-place-eq-START.false ∙ tail_row ws c.args.place t c.in-Some.ensures.tail));
+      edge = c.against.ensures.edge ∙ sym (ap (λ (es : List (ℕ × ℕ)). edge_nth es c.args.index) (from_other ws c.args.place c.if-place-eq-START.false ∙ tail_row ws c.args.place t c.in-Some.ensures.tail));
     }
 
 pub returns-in-None : goal.returns-in-None
 returns-in-None c =
     let ws = words c.args.self.now.table in
     record {
-      edge = sym (ap (λ (es : List (ℕ × ℕ)). edge-nth es c.args.index) (from_other ws c.args.place c.if-place-eq-START.false ∙ c.in-None.ensures.tail));
+      edge = sym (ap (λ (es : List (ℕ × ℕ)). edge_nth es c.args.index) (from_other ws c.args.place c.if-place-eq-START.false ∙ c.in-None.ensures.tail));
     }
