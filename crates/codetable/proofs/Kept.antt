@@ -1,8 +1,8 @@
 -- What a list of words keeps when it is changed: its words are formed, and none clash.
-use Rattle.std.proofs.Common.{◌≡◌, ℕ, zero, suc, ◌<◌, ◌≤◌, Bool, ◌⊎◌, List, [], ◌∷◌, ◌++◌, length, take, Some, None, sym, refl, ap, ◌∙◌, subst, inl, inr, ⊎_elim, arith}
+use Rattle.std.proofs.Common.{◌≡◌, ℕ, zero, suc, ◌≤◌, Bool, ◌⊎◌, List, [], ◌∷◌, ◌++◌, length, take, Some, sym, refl, ap, ◌∙◌, subst, inl, inr, ⊎_elim, arith}
 use Rattle.std.specs.List.{slice_get}
 use Rattle.codetable.specs.declared.word.Codeword.{Codeword}
-use Rattle.codetable.specs.Codewords.{bits, bits_of, largest, most_bits, most_weight, Formed, AllFormed, AllWeighed, Prefix, Conflict, Clash, Clashes, reweighed}
+use Rattle.codetable.specs.Codewords.{bits, bits_of, largest, most_bits, most_weight, Formed, AllFormed, AllWeighed, Prefix, Clash, Clashes, reweighed}
 
 -- b is a but for its weight
 abbrev Alike : Codeword → Codeword → Type 0

@@ -1,7 +1,7 @@
-use Rattle.std.proofs.Common.{◌≡◌, ℕ, ◌-◌, ◌/◌, ◌%◌, ◌^◌, ◌<◌, ◌≤◌, Bool, false, eqb, get_or, sym, ap, ◌∙◌, arith}
+use Rattle.std.proofs.Common.{ℕ, ◌-◌, ◌/◌, ◌%◌, ◌^◌, ◌<◌, ◌≤◌, false, eqb, sym, ap, ◌∙◌, arith}
 use Rattle.std.proofs.lemmas.List.{get_or_past}
 use Rattle.std.proofs.lemmas.Bool.{le-ltb}
-use Rattle.codetable.specs.Codewords.{bits, bits_of}
+use Rattle.codetable.specs.Codewords.{bits}
 use Rattle.codetable.proofs.Bits.{length-bits, bit_at, bit_high}
 use Rattle.codetable.proofs.word.Codeword.bit.Goals as goal
 
