@@ -62,7 +62,7 @@ returns-in_err-found g c =
     let s = sound_of t v c.args.count (omega arith) in
     let refused = c.in_err-found.ensures.answer in
     record {
-      answer = by_found (words t) (values v) c.args.count s (g.Q.Queue.model c.args.queue.now) (g.Q.Queue.model c.search_trellis.new.queue) c.args.costs.now c.search_trellis.new.costs c.args.ahead.now c.fill_ahead.new.ahead _ _ _ _ (⊎_elim (λ h. omega arith) (λ h. omega arith)) (⊎_elim (λ h. omega (arith, c.if-size.false)) (⊎_elim (λ h. omega (arith, c.if-costs-size.false)) (λ h. omega (arith, c.if-ahead-len.false)))) c.fill_ahead.ensures.ahead c.in_err-found.field-0.0 c.from-residual.result c.from-residual.ensures.0 c.from-residual.ensures.1 refused.0 refused.1;
+      answer = by_found (words t) (values v) c.args.count s (g.Q.Queue.model c.args.queue.now) (g.Q.Queue.model c.search_trellis.new.queue) c.args.costs.now c.search_trellis.new.costs c.args.ahead.now c.fill_ahead.new.ahead _ _ _ _ (⊎_elim (λ h. omega arith) (λ h. omega arith)) (⊎_elim (λ h. omega (arith, c.if-size.false)) (⊎_elim (λ h. omega (arith, c.if-costs-size.false)) (λ h. omega (arith, c.if-ahead-len.false)))) c.fill_ahead.ensures.ahead c.in_err-found.field-0.0 c.from_residual.result c.from_residual.ensures.0 c.from_residual.ensures.1 refused.0 refused.1;
       lists = λ few. paths_are_lists (words t) (values v) c.args.count (sound_of t v c.args.count few);
       estimates = estimates_are_least (words t) t.formed (values v);
     }

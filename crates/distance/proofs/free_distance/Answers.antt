@@ -20,7 +20,7 @@ returns-in_err-found g c =
     let len = c.len.ensures.count in
     let refused = c.in_err-found.ensures.answer in
     record {
-      answer = by_search ws s (g.Q.Queue.model c.args.queue.now) c.args.costs.now _ _ _ _ (λ few. omega (arith, c.if-len-lt2.false)) c.in_err-found.field-0.0 c.from-residual.result c.from-residual.ensures.0 c.from-residual.ensures.1 refused.0 refused.1;
+      answer = by_search ws s (g.Q.Queue.model c.args.queue.now) c.args.costs.now _ _ _ _ (λ few. omega (arith, c.if-len-lt2.false)) c.in_err-found.field-0.0 c.from_residual.result c.from_residual.ensures.0 c.from_residual.ensures.1 refused.0 refused.1;
       paths = paths_are_pairs ws s;
     }
 

@@ -16,5 +16,5 @@ returns-in_err-pop c =
     let t : Sheet = with_table s (words c.pop.new.self) in
     let refused = c.in_err-pop.ensures.answer in
     record {
-      works = passed (drop_checks s.table) c.from-residual.result (Table c.in_err-pop.field-0.0) (λ _. t ≡ with_table s (take (length s.table - 1) s.table)) (λ (f : Refusal). (layer f ≡ at.Table) × (t ≡ s)) c.from-residual.ensures.0 c.from-residual.ensures.1 refused.0 (refl, ap (λ (x : CodeTable). with_table s (words x)) refused.1);
+      works = passed (drop_checks s.table) c.from_residual.result (Table c.in_err-pop.field-0.0) (λ _. t ≡ with_table s (take (length s.table - 1) s.table)) (λ (f : Refusal). (layer f ≡ at.Table) × (t ≡ s)) c.from_residual.ensures.0 c.from_residual.ensures.1 refused.0 (refl, ap (λ (x : CodeTable). with_table s (words x)) refused.1);
     }

@@ -16,5 +16,5 @@ returns-in_err-push c =
     let t : Sheet = with_table s (words c.push.new.self) in
     let refused = c.in_err-push.ensures.answer in
     record {
-      works = passed (word_checks s.table c.args.len c.args.value) c.from-residual.result (Table c.in_err-push.field-0.0) (λ _. t ≡ with_table s (s.table ++ entered c.args.len c.args.value ∷ [])) (λ (f : Refusal). (layer f ≡ at.Table) × (t ≡ s)) c.from-residual.ensures.0 c.from-residual.ensures.1 refused.0 (refl, ap (λ (x : CodeTable). with_table s (words x)) refused.1);
+      works = passed (word_checks s.table c.args.len c.args.value) c.from_residual.result (Table c.in_err-push.field-0.0) (λ _. t ≡ with_table s (s.table ++ entered c.args.len c.args.value ∷ [])) (λ (f : Refusal). (layer f ≡ at.Table) × (t ≡ s)) c.from_residual.ensures.0 c.from_residual.ensures.1 refused.0 (refl, ap (λ (x : CodeTable). with_table s (words x)) refused.1);
     }

@@ -21,7 +21,7 @@ returns-in_err-decoded g c =
     let ahead' = c.decode.new.ahead in
     let refused = c.in_err-decoded.ensures.answer in
     record {
-      works = passed (decode_checks s.table s.received c.args.count m costs ahead) c.from-residual.result (Search c.in_err-decoded.field-0.0) (λ d. Loads s c.args.count d s × Remains s.table s.received c.args.count (Some d.metric) m q costs costs' ahead ahead') (λ (f : Refusal). (s ≡ s) × Spared f ((q ≡ m) × (costs' ≡ costs) × (ahead' ≡ ahead)) (Remains s.table s.received c.args.count None m q costs costs' ahead ahead')) c.from-residual.ensures.0 c.from-residual.ensures.1 refused.0 (refl, spares_as c.in_err-decoded.field-0.0 _ ((q ≡ m) × (costs' ≡ costs) × (ahead' ≡ ahead)) (Remains s.table s.received c.args.count None m q costs costs' ahead ahead') (λ same. (ap g.Q.Queue.model same.0, same.1, same.2)) refused.1);
+      works = passed (decode_checks s.table s.received c.args.count m costs ahead) c.from_residual.result (Search c.in_err-decoded.field-0.0) (λ d. Loads s c.args.count d s × Remains s.table s.received c.args.count (Some d.metric) m q costs costs' ahead ahead') (λ (f : Refusal). (s ≡ s) × Spared f ((q ≡ m) × (costs' ≡ costs) × (ahead' ≡ ahead)) (Remains s.table s.received c.args.count None m q costs costs' ahead ahead')) c.from_residual.ensures.0 c.from_residual.ensures.1 refused.0 (refl, spares_as c.in_err-decoded.field-0.0 _ ((q ≡ m) × (costs' ≡ costs) × (ahead' ≡ ahead)) (Remains s.table s.received c.args.count None m q costs costs' ahead ahead') (λ same. (ap g.Q.Queue.model same.0, same.1, same.2)) refused.1);
     }
 
 pub returns : goal.returns

@@ -17,5 +17,5 @@ returns-in_err-set_weight c =
     let t : Sheet = with_table s (words c.set_weight.new.self) in
     let refused = c.in_err-set_weight.ensures.answer in
     record {
-      works = passed (weigh_checks s.table c.args.number) c.from-residual.result (Table c.in_err-set_weight.field-0.0) (λ _. t ≡ with_table s (reweighed s.table c.args.number c.args.weight)) (λ (f : Refusal). (layer f ≡ at.Table) × (t ≡ s)) c.from-residual.ensures.0 c.from-residual.ensures.1 refused.0 (refl, ap (λ (x : CodeTable). with_table s (words x)) refused.1);
+      works = passed (weigh_checks s.table c.args.number) c.from_residual.result (Table c.in_err-set_weight.field-0.0) (λ _. t ≡ with_table s (reweighed s.table c.args.number c.args.weight)) (λ (f : Refusal). (layer f ≡ at.Table) × (t ≡ s)) c.from_residual.ensures.0 c.from_residual.ensures.1 refused.0 (refl, ap (λ (x : CodeTable). with_table s (words x)) refused.1);
     }

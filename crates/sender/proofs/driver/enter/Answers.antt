@@ -10,7 +10,7 @@ use Rattle.sender.proofs.driver.enter.Goals as goal
 
 pub returns-in-err-push : goal.returns-in-err-push
 returns-in-err-push c =
-    let p = err_from_is_err_and c.from-residual.result c.from-residual.ensures.1 in
+    let p = err_from_is_err_and c.from_residual.result c.from_residual.ensures.1 in
     let told = c.in-err-push.ensures.answer in
     rw (p.1, p.2) (record { answer = (told.0, (refl, ap words told.1)) })
 

@@ -10,7 +10,7 @@ pub returns-in_err-word : goal.returns-in_err-word
 returns-in_err-word c =
     let t = c.args.tail in
     record {
-      edge = c.from-residual.ensures ∙ sym (against_past t.number t.word t.cut 0 (words c.args.self.now.table) c.args.index (sym c.in_err-word.ensures.found));
+      edge = c.from_residual.ensures ∙ sym (against_past t.number t.word t.cut 0 (words c.args.self.now.table) c.args.index (sym c.in_err-word.ensures.found));
     }
 
 pub compare-requires : goal.compare-requires
