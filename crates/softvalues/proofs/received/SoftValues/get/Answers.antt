@@ -2,11 +2,11 @@ use Rattle.std.proofs.Common.{get_or, pos, Some, sym, ap, ◌∙◌}
 use Rattle.softvalues.proofs.Held.{nth-stored, nth_beyond, read_back, read_on_scale}
 use Rattle.softvalues.proofs.received.SoftValues.get.Goals as goal
 
-pub invariant-of-result : goal.invariant-of-result
-invariant-of-result c =
+pub invariant_of-result : goal.invariant_of-result
+invariant_of-result c =
     let s = c.args.self.now in
     let here = nth-stored s.inner s.room c.args.i (pos 0) c.if-i-self.true in
-    (read_on_scale (get_or s.inner.at c.args.i (pos 0)) (s.scale c.args.i _ here), tt)
+    record { scale = read_on_scale (get_or s.inner.at c.args.i (pos 0)) (s.scale c.args.i _ here) }
 
 pub returns-then-i-self : goal.returns-then-i-self
 returns-then-i-self c =
