@@ -6,7 +6,7 @@ use Rattle.codetable.specs.declared.word.Codeword.{Codeword}
 use Rattle.codetable.specs.Sequences.{Sequence, joined_bits}
 use Rattle.codetable.proofs.Stored.{nth_there}
 use Rattle.softvalues.specs.Scale.{magnitude}
-use Rattle.distance.specs.Distances.{differing, hamming, distance, Rivals}
+use Rattle.distance.specs.Distances.{differing, hamming, Rivals}
 use Rattle.decoder.specs.Metrics.{penalty, over, weights, metric, Better, Best, Corrects}
 use Rattle.decoder.proofs.Sums.{weight_there}
 

@@ -6,7 +6,6 @@ use Rattle.codetable.specs.Codewords.{bits}
 use Rattle.codetable.proofs.Bits.{length-bits}
 use Rattle.codetable.proofs.Stored.{nth_drop}
 use Rattle.softvalues.specs.Received.{values}
-use Rattle.softvalues.specs.Scale.{hard_bit_of}
 use Rattle.decoder.specs.Metrics.{contradicts, changes, over}
 use Rattle.decoder.specs.Laws.{few_values_of}
 use Rattle.decoder.proofs.Laid.{contradiction, over_zero, over_more, over_past, changed_most}

@@ -6,7 +6,7 @@ use Rattle.codetable.specs.Codewords.{bits}
 use Rattle.codetable.proofs.Bits.{length-bits}
 use Rattle.codetable.proofs.Stored.{nth_drop}
 use Rattle.softvalues.specs.Received.{values}
-use Rattle.softvalues.specs.Scale.{hard_bit_of, magnitude}
+use Rattle.softvalues.specs.Scale.{magnitude}
 use Rattle.decoder.specs.Metrics.{contradicts, penalty, over}
 use Rattle.decoder.specs.Laws.{over_most, on_scale_drop}
 use Rattle.decoder.proofs.Laid.{contradiction, over_zero, over_more, over_past}

@@ -91,7 +91,7 @@ loop-stage-preserved c =
     absurd (reading_goes ws vs n s c.args.costs.now c.loop-stage.at c.loop-stage.changed c.loop-stage.bits i here c.in_default.ensures.lowest)
 
 pub invariant_of-result : goal.invariant_of-result
-invariant_of-result c = ((c.requires.few, c.loop-stage.invariant.room), tt)
+invariant_of-result c = record { room = (c.requires.few, c.loop-stage.invariant.room) }
 
 pub returns : goal.returns
 returns c =
