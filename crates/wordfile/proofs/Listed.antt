@@ -26,10 +26,10 @@ word_listed (a ∷ b ∷ c ∷ []) k = sym (word_cut (a ∷ b ∷ c ∷ []) k (o
 word_listed (a ∷ b ∷ c ∷ d ∷ bs) zero = sym (word_whole (a ∷ b ∷ c ∷ d ∷ bs) zero (omega arith))
 word_listed (a ∷ b ∷ c ∷ d ∷ bs) (suc k) =
     let all = a ∷ b ∷ c ∷ d ∷ bs in
-    let at-0 : get_or all (4 * suc k) 0 ≡ get_or bs (4 * k) 0 = let far : 4 * suc k ≡ suc (suc (suc (suc (4 * k)))) = omega arith in ap (λ n. get_or all n 0) far in
+    let at_0 : get_or all (4 * suc k) 0 ≡ get_or bs (4 * k) 0 = let far : 4 * suc k ≡ suc (suc (suc (suc (4 * k)))) = omega arith in ap (λ n. get_or all n 0) far in
     let at_1 = behind a b c d bs k 1 in
-    let at-2 = behind a b c d bs k 2 in
-    let at-3 = behind a b c d bs k 3 in
+    let at_2 = behind a b c d bs k 2 in
+    let at_3 = behind a b c d bs k 3 in
     let same : four bs (4 * k) ≡ four all (4 * suc k) = cc in
     word_listed bs k
     ∙ ⊎_elim

@@ -11,5 +11,5 @@ returns-then-place-bytes c =
 pub returns : goal.returns
 returns c =
     let bs = c.args.bytes.now in
-    let some = ap Some c.from-be-bytes.ensures ∙ sym (word_whole bs c.args.place (omega arith)) in
+    let some = ap Some c.from_be_bytes.ensures ∙ sym (word_whole bs c.args.place (omega arith)) in
     record { found = some; listed = some ∙ sym (word_listed bs c.args.place) }
