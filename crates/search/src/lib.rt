@@ -69,10 +69,10 @@ fn clear(costs: &mut [u32], count: usize)
 
 // Gives a place a cost that is less than the one it has, and offers it with the sum of that and its estimate.
 fn lower<Q: Queue>(queue: &mut Q, costs: &mut [u32], place: usize, cost: u32, estimate: u32)
-    requires room { place < (model queue.old).size }
+    requires room { place < (Q.model queue.old).size }
     requires long { place < length costs.old }
     requires fits { cost + estimate ≤ unknown }
-    ensures lowered { Lowers costs.old costs.new (model queue.old) (model queue.new) place cost estimate }
+    ensures lowered { Lowers costs.old costs.new (Q.model queue.old) (Q.model queue.new) place cost estimate }
 {
     if cost < costs[place] {
         costs[place] = cost;
@@ -88,9 +88,9 @@ fn relax_edge<M: Map, Q: Queue>(
     place: usize,
     index: usize,
 )
-    requires relaxing { Relaxing (graph map.now) costs.old (model queue.old) place index }
-    ensures relaxing { Relaxing (graph map.now) costs.new (model queue.new) place (index + 1) }
-    ensures keeps { Keeps (graph map.now) costs.old costs.new (model queue.old) (model queue.new) }
+    requires relaxing { Relaxing (M.graph map.now) costs.old (Q.model queue.old) place index }
+    ensures relaxing { Relaxing (M.graph map.now) costs.new (Q.model queue.new) place (index + 1) }
+    ensures keeps { Keeps (M.graph map.now) costs.old costs.new (Q.model queue.old) (Q.model queue.new) }
 {
     if let Some(edge) = map.edge(place, index) {
         if let Some(estimate) = map.estimate(edge.0) {
@@ -102,9 +102,9 @@ fn relax_edge<M: Map, Q: Queue>(
 
 // Relaxes every edge of the place that was opened last.
 fn relax<M: Map, Q: Queue>(map: &M, queue: &mut Q, costs: &mut [u32], place: usize)
-    requires relaxing { Relaxing (graph map.now) costs.old (model queue.old) place 0 }
-    ensures searching { Searching (graph map.now) costs.new (model queue.new) }
-    ensures keeps { Keeps (graph map.now) costs.old costs.new (model queue.old) (model queue.new) }
+    requires relaxing { Relaxing (M.graph map.now) costs.old (Q.model queue.old) place 0 }
+    ensures searching { Searching (M.graph map.now) costs.new (Q.model queue.new) }
+    ensures keeps { Keeps (M.graph map.now) costs.old costs.new (Q.model queue.old) (Q.model queue.new) }
 {
     for index in 0..map.edge_count(place) {
         relax_edge(map, queue, costs, place, index);
@@ -113,7 +113,7 @@ fn relax<M: Map, Q: Queue>(map: &M, queue: &mut Q, costs: &mut [u32], place: usi
 
 // Takes the place with the least key, unless that is above a bound or nothing is held.
 fn take_within<Q: Queue>(queue: &mut Q, bound: u32) -> Option<usize>
-    ensures takes { TakesWithin (model queue.old) (model queue.new) bound result }
+    ensures takes { TakesWithin (Q.model queue.old) (Q.model queue.new) bound result }
 {
     match queue.look() {
         None => None,
@@ -130,12 +130,12 @@ fn take_within<Q: Queue>(queue: &mut Q, bound: u32) -> Option<usize>
 
 // Clears the queue and the costs, and lets the start wait if it has an estimate.
 fn begin<M: Map, Q: Queue>(map: &M, queue: &mut Q, costs: &mut [u32])
-    requires room { (graph map.now).size ≤ (model queue.old).size }
-    requires long { (graph map.now).size ≤ length costs.old }
-    ensures searching { Searching (graph map.now) costs.new (model queue.new) }
-    ensures none { (p : ℕ) → p < (graph map.now).size → settled costs.new (model queue.new) p ≡ None }
-    ensures size { (model queue.new).size ≡ (model queue.old).size }
-    ensures rest { (p : ℕ) → (graph map.now).size ≤ p → cost_at costs.new p ≡ cost_at costs.old p }
+    requires room { (M.graph map.now).size ≤ (Q.model queue.old).size }
+    requires long { (M.graph map.now).size ≤ length costs.old }
+    ensures searching { Searching (M.graph map.now) costs.new (Q.model queue.new) }
+    ensures none { (p : ℕ) → p < (M.graph map.now).size → settled costs.new (Q.model queue.new) p ≡ None }
+    ensures size { (Q.model queue.new).size ≡ (Q.model queue.old).size }
+    ensures rest { (p : ℕ) → (M.graph map.now).size ≤ p → cost_at costs.new p ≡ cost_at costs.old p }
 {
     queue.empty();
     clear(costs, map.size());
@@ -147,13 +147,13 @@ fn begin<M: Map, Q: Queue>(map: &M, queue: &mut Q, costs: &mut [u32])
 
 // Opens places until the least key in the queue is above the cost of the finish, and answers how many were opened.
 fn run<M: Map, Q: Queue>(map: &M, queue: &mut Q, costs: &mut [u32]) -> usize
-    requires searching { Searching (graph map.now) costs.old (model queue.old) }
-    requires none { (p : ℕ) → p < (graph map.now).size → settled costs.old (model queue.old) p ≡ None }
-    ensures searching { Searching (graph map.now) costs.new (model queue.new) }
-    ensures over { NoneWithin (model queue.new) (cost_at costs.new (graph map.now).finish) }
-    ensures opened { result ≡ tally (settled costs.new (model queue.new)) (graph map.now).size }
-    ensures size { (model queue.new).size ≡ (model queue.old).size }
-    ensures rest { (p : ℕ) → (graph map.now).size ≤ p → cost_at costs.new p ≡ cost_at costs.old p }
+    requires searching { Searching (M.graph map.now) costs.old (Q.model queue.old) }
+    requires none { (p : ℕ) → p < (M.graph map.now).size → settled costs.old (Q.model queue.old) p ≡ None }
+    ensures searching { Searching (M.graph map.now) costs.new (Q.model queue.new) }
+    ensures over { NoneWithin (Q.model queue.new) (cost_at costs.new (M.graph map.now).finish) }
+    ensures opened { result ≡ tally (settled costs.new (Q.model queue.new)) (M.graph map.now).size }
+    ensures size { (Q.model queue.new).size ≡ (Q.model queue.old).size }
+    ensures rest { (p : ℕ) → (M.graph map.now).size ≤ p → cost_at costs.new p ≡ cost_at costs.old p }
 {
     let finish = map.finish();
     let mut opened = 0;
@@ -175,7 +175,7 @@ pub fn search<M: Map, Q: Queue>(
     queue: &mut Q,
     costs: &mut [u32],
 ) -> Result<Found, SearchFault>
-    ensures answer { Judged (search_checks (graph map.now) (model queue.old) costs.old) by_search result (λ found. Finds (graph map.now) found × Leaves (graph map.now) (Some found.limit) (model queue.old) (model queue.new) costs.old costs.new) (λ f. Refused f ((queue.new ≡ queue.old) × (costs.new ≡ costs.old)) (Leaves (graph map.now) None (model queue.old) (model queue.new) costs.old costs.new)) }
+    ensures answer { Judged (search_checks (M.graph map.now) (Q.model queue.old) costs.old) by_search result (λ found. Finds (M.graph map.now) found × Leaves (M.graph map.now) (Some found.limit) (Q.model queue.old) (Q.model queue.new) costs.old costs.new) (λ f. Refused f ((queue.new ≡ queue.old) × (costs.new ≡ costs.old)) (Leaves (M.graph map.now) None (Q.model queue.old) (Q.model queue.new) costs.old costs.new)) }
 {
     let size = map.size();
     let room = queue.size();

@@ -3,8 +3,8 @@ use Rattle.search.proofs.Ahead.{no_edge, no_estimate}
 use Rattle.search.proofs.Lowered.{relaxed_edge, relaxed_more, sum_fits, inside, keeps_same}
 use Rattle.search.proofs.relax_edge.Goals as goal
 
-pub overflow-add-cost : goal.overflow-add-cost
-overflow-add-cost g c =
+pub overflow_add-cost : goal.overflow_add-cost
+overflow_add-cost g c =
     let fits = sum_fits (g.M.Map.graph c.args.map.now) (g.M.Map.lawful c.args.map.now) c.args.costs.now (g.Q.Queue.model c.args.queue.now) c.args.place c.args.index c.requires.relaxing c.in-Some.edge.0 c.in-Some.edge.1 c.in-Some-estimate.estimate c.in-Some.ensures.edge c.in-Some-estimate.ensures.estimate in
     omega arith
 
@@ -24,20 +24,20 @@ returns-in-Some-estimate g c =
     let w = relaxed_edge (g.M.Map.graph c.args.map.now) (g.M.Map.lawful c.args.map.now) c.args.costs.now (g.Q.Queue.model c.args.queue.now) c.args.place c.args.index c.requires.relaxing c.in-Some.edge.0 c.in-Some.edge.1 c.in-Some-estimate.estimate c.in-Some.ensures.edge c.in-Some-estimate.ensures.estimate c.lower.new.costs (g.Q.Queue.model c.lower.new.queue) c.lower.ensures.lowered in
     record { relaxing = w.0; keeps = w.1 }
 
-pub returns-in-default-estimate : goal.returns-in-default-estimate
-returns-in-default-estimate g c =
+pub returns-in_default-estimate : goal.returns-in_default-estimate
+returns-in_default-estimate g c =
     let graph = g.M.Map.graph c.args.map.now in
     record {
       relaxing =
-          relaxed_more graph c.args.costs.now (g.Q.Queue.model c.args.queue.now) c.args.place c.args.index c.requires.relaxing (no_estimate graph c.args.costs.now c.args.place c.args.index c.in-Some.edge.0 c.in-Some.edge.1 c.in-Some.ensures.edge c.in-default-estimate.ensures.estimate);
+          relaxed_more graph c.args.costs.now (g.Q.Queue.model c.args.queue.now) c.args.place c.args.index c.requires.relaxing (no_estimate graph c.args.costs.now c.args.place c.args.index c.in-Some.edge.0 c.in-Some.edge.1 c.in-Some.ensures.edge c.in_default-estimate.ensures.estimate);
       keeps = keeps_same graph c.args.costs.now (g.Q.Queue.model c.args.queue.now);
     }
 
-pub returns-in-default : goal.returns-in-default
-returns-in-default g c =
+pub returns-in_default : goal.returns-in_default
+returns-in_default g c =
     let graph = g.M.Map.graph c.args.map.now in
     record {
       relaxing =
-          relaxed_more graph c.args.costs.now (g.Q.Queue.model c.args.queue.now) c.args.place c.args.index c.requires.relaxing (no_edge graph c.args.costs.now c.args.place c.args.index c.in-default.ensures.edge);
+          relaxed_more graph c.args.costs.now (g.Q.Queue.model c.args.queue.now) c.args.place c.args.index c.requires.relaxing (no_edge graph c.args.costs.now c.args.place c.args.index c.in_default.ensures.edge);
       keeps = keeps_same graph c.args.costs.now (g.Q.Queue.model c.args.queue.now);
     }

@@ -16,29 +16,29 @@ loop-place-init g c =
 
 pub relax-requires : goal.relax-requires
 relax-requires g c =
-    let takes = takes_at (g.M.Map.graph c.args.map.now) c.loop-place.costs (g.Q.Queue.model c.loop-place.queue) (g.Q.Queue.model c.take-within.new.queue) c.finish-finish.result c.in-Some.place c.finish-finish.ensures.finish c.in-Some.ensures.takes in
-    record { relaxing = taken_relaxing (g.M.Map.graph c.args.map.now) (g.M.Map.lawful c.args.map.now) c.loop-place.costs (g.Q.Queue.model c.loop-place.queue) (g.Q.Queue.model c.take-within.new.queue) c.in-Some.place c.loop-place.invariant.searching takes }
+    let takes = takes_at (g.M.Map.graph c.args.map.now) c.loop-place.costs (g.Q.Queue.model c.loop-place.queue) (g.Q.Queue.model c.take_within.new.queue) c.finish-finish.result c.in-Some.place c.finish-finish.ensures.finish c.in-Some.ensures.takes in
+    record { relaxing = taken_relaxing (g.M.Map.graph c.args.map.now) (g.M.Map.lawful c.args.map.now) c.loop-place.costs (g.Q.Queue.model c.loop-place.queue) (g.Q.Queue.model c.take_within.new.queue) c.in-Some.place c.loop-place.invariant.searching takes }
 
-pub overflow-add-opened : goal.overflow-add-opened
-overflow-add-opened g c =
-    let takes = takes_at (g.M.Map.graph c.args.map.now) c.loop-place.costs (g.Q.Queue.model c.loop-place.queue) (g.Q.Queue.model c.take-within.new.queue) c.finish-finish.result c.in-Some.place c.finish-finish.ensures.finish c.in-Some.ensures.takes in
-    let room = count_room (g.M.Map.graph c.args.map.now) (g.M.Map.lawful c.args.map.now) c.loop-place.costs (g.Q.Queue.model c.loop-place.queue) (g.Q.Queue.model c.take-within.new.queue) c.in-Some.place c.loop-place.invariant.searching takes in
+pub overflow_add-opened : goal.overflow_add-opened
+overflow_add-opened g c =
+    let takes = takes_at (g.M.Map.graph c.args.map.now) c.loop-place.costs (g.Q.Queue.model c.loop-place.queue) (g.Q.Queue.model c.take_within.new.queue) c.finish-finish.result c.in-Some.place c.finish-finish.ensures.finish c.in-Some.ensures.takes in
+    let room = count_room (g.M.Map.graph c.args.map.now) (g.M.Map.lawful c.args.map.now) c.loop-place.costs (g.Q.Queue.model c.loop-place.queue) (g.Q.Queue.model c.take_within.new.queue) c.in-Some.place c.loop-place.invariant.searching takes in
     omega (arith, c.loop-place.invariant.count, c.loop-place.invariant.searching.frontier.long)
 
 pub loop-place-smaller : goal.loop-place-smaller
 loop-place-smaller g c =
-    let takes = takes_at (g.M.Map.graph c.args.map.now) c.loop-place.costs (g.Q.Queue.model c.loop-place.queue) (g.Q.Queue.model c.take-within.new.queue) c.finish-finish.result c.in-Some.place c.finish-finish.ensures.finish c.in-Some.ensures.takes in
-    let room = count_room (g.M.Map.graph c.args.map.now) (g.M.Map.lawful c.args.map.now) c.loop-place.costs (g.Q.Queue.model c.loop-place.queue) (g.Q.Queue.model c.take-within.new.queue) c.in-Some.place c.loop-place.invariant.searching takes in
+    let takes = takes_at (g.M.Map.graph c.args.map.now) c.loop-place.costs (g.Q.Queue.model c.loop-place.queue) (g.Q.Queue.model c.take_within.new.queue) c.finish-finish.result c.in-Some.place c.finish-finish.ensures.finish c.in-Some.ensures.takes in
+    let room = count_room (g.M.Map.graph c.args.map.now) (g.M.Map.lawful c.args.map.now) c.loop-place.costs (g.Q.Queue.model c.loop-place.queue) (g.Q.Queue.model c.take_within.new.queue) c.in-Some.place c.loop-place.invariant.searching takes in
     omega (arith, c.loop-place.invariant.count)
 
 pub loop-place-preserved : goal.loop-place-preserved
 loop-place-preserved g c =
-    let takes = takes_at (g.M.Map.graph c.args.map.now) c.loop-place.costs (g.Q.Queue.model c.loop-place.queue) (g.Q.Queue.model c.take-within.new.queue) c.finish-finish.result c.in-Some.place c.finish-finish.ensures.finish c.in-Some.ensures.takes in
-    running_more (g.M.Map.graph c.args.map.now) (g.M.Map.lawful c.args.map.now) c.args.costs.now c.loop-place.costs c.relax.new.costs (g.Q.Queue.model c.args.queue.now) (g.Q.Queue.model c.loop-place.queue) (g.Q.Queue.model c.take-within.new.queue) (g.Q.Queue.model c.relax.new.queue) c.loop-place.opened _ c.in-Some.place c.loop-place.invariant takes c.relax.ensures.searching c.relax.ensures.keeps (omega arith)
+    let takes = takes_at (g.M.Map.graph c.args.map.now) c.loop-place.costs (g.Q.Queue.model c.loop-place.queue) (g.Q.Queue.model c.take_within.new.queue) c.finish-finish.result c.in-Some.place c.finish-finish.ensures.finish c.in-Some.ensures.takes in
+    running_more (g.M.Map.graph c.args.map.now) (g.M.Map.lawful c.args.map.now) c.args.costs.now c.loop-place.costs c.relax.new.costs (g.Q.Queue.model c.args.queue.now) (g.Q.Queue.model c.loop-place.queue) (g.Q.Queue.model c.take_within.new.queue) (g.Q.Queue.model c.relax.new.queue) c.loop-place.opened _ c.in-Some.place c.loop-place.invariant takes c.relax.ensures.searching c.relax.ensures.keeps (omega arith)
 
 pub returns : goal.returns
 returns g c =
-    let r = running_ends (g.M.Map.graph c.args.map.now) c.args.costs.now c.loop-place.costs (g.Q.Queue.model c.args.queue.now) (g.Q.Queue.model c.loop-place.queue) (g.Q.Queue.model c.take-within.new.queue) c.loop-place.opened c.finish-finish.result c.loop-place.invariant c.finish-finish.ensures.finish c.in-default.ensures.takes in
+    let r = running_ends (g.M.Map.graph c.args.map.now) c.args.costs.now c.loop-place.costs (g.Q.Queue.model c.args.queue.now) (g.Q.Queue.model c.loop-place.queue) (g.Q.Queue.model c.take_within.new.queue) c.loop-place.opened c.finish-finish.result c.loop-place.invariant c.finish-finish.ensures.finish c.in_default.ensures.takes in
     record {
       searching = r.0.searching;
       over = r.1;
