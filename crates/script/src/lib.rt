@@ -203,9 +203,9 @@ fn parse_step(rest: &[u8]) -> Result<Entry, LineFault>
 fn parse_entry(keyword: &[u8], rest: &[u8]) -> Result<Entry, LineFault>
     ensures reads { result ≡ entry_of keyword.now (fields rest.now) }
 {
-    if keyword == b"word" {
+    if keyword == b"word".as_slice() {
         parse_word(rest)
-    } else if keyword == b"step" {
+    } else if keyword == b"step".as_slice() {
         parse_step(rest)
     } else {
         Err(LineFault::Unknown)
