@@ -1,6 +1,6 @@
 -- What a transfer carries after each call, for every list of words sent before.
-use Rattle.std.proofs.Common.{◌≡◌, ℕ, ◌+◌, ◌*◌, ◌<◌, ◌≤◌, Bool, List, [], ◌∷◌, ◌++◌, map, length, Some, None, Option, unwrap_or, sym, refl, ap, ◌∙◌, subst, zero-add, arith, length-append}
-use Rattle.std.specs.List.{slice_get, flat_map}
+use Rattle.std.proofs.Common.{◌≡◌, ℕ, ◌+◌, ◌*◌, ◌≤◌, Bool, List, [], ◌∷◌, ◌++◌, map, length, Some, Option, unwrap_or, sym, ap, ◌∙◌, zero-add, arith, length-append}
+use Rattle.std.specs.List.{slice_get}
 use Rattle.std.specs.Option.{option_map}
 use Rattle.std.proofs.lemmas.List.{flat_map_more, length_push, length-map, map-append}
 use Rattle.codetable.specs.declared.word.Codeword.{Codeword}
@@ -9,8 +9,8 @@ use Rattle.codetable.proofs.Bits.{length-bits}
 use Rattle.transfer.specs.declared.state.OpenTransfer.{OpenTransfer}
 use Rattle.transfer.specs.declared.state.ClosedTransfer.{ClosedTransfer}
 use Rattle.transfer.specs.Format.{bit_word, load_word, end_word}
-use Rattle.transfer.specs.Transfers.{closing, sent_bits, transfer_words, written, bits_at}
-use Rattle.transfer.specs.Calls.{Stepped, Finished, Carries, Delivers, word_count}
+use Rattle.transfer.specs.Transfers.{closing, sent_bits, written, bits_at}
+use Rattle.transfer.specs.Calls.{Stepped, Finished, Carries, Delivers}
 use Rattle.transfer.proofs.Written.{length-written, written_more}
 
 pub bits_there : (ws : List Codeword) (k : ℕ) (w : Codeword) → slice_get ws k ≡ Some w → bits_at ws k ≡ bits w

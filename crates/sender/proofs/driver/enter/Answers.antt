@@ -8,30 +8,30 @@ use Rattle.sender.specs.Effects.{weighed}
 use Rattle.sender.proofs.Followed.{reweighed_last}
 use Rattle.sender.proofs.driver.enter.Goals as goal
 
-pub returns-in-err-push : goal.returns-in-err-push
-returns-in-err-push c =
+pub returns-in_err-push : goal.returns-in_err-push
+returns-in_err-push c =
     let p = err_from_is_err_and c.from_residual.result c.from_residual.ensures.1 in
-    let told = c.in-err-push.ensures.answer in
+    let told = c.in_err-push.ensures.answer in
     rw (p.1, p.2) (record { answer = (told.0, (refl, ap words told.1)) })
 
 -- the word that was just added is there
-pub returns-in-err-set-weight : goal.returns-in-err-set-weight
-returns-in-err-set-weight c =
+pub returns-in_err-set_weight : goal.returns-in_err-set_weight
+returns-in_err-set_weight c =
     let ws = words c.args.table.now in
-    let more = ap length c.in-ok-push.ensures.answer.1 ∙ length_push ws (entered c.args.len c.args.value) in
+    let more = ap length c.in_ok-push.ensures.answer.1 ∙ length_push ws (entered c.args.len c.args.value) in
     absurd (
-    ⊎_elim (λ due. omega (arith, due.0, more, c.len-k.ensures.count)) (λ none. none.1) c.in-err-set-weight.ensures.answer.0
+    ⊎_elim (λ due. omega (arith, due.0, more, c.len-k.ensures.count)) (λ none. none.1) c.in_err-set_weight.ensures.answer.0
     )
 
-pub returns-in-ok-set-weight : goal.returns-in-ok-set-weight
-returns-in-ok-set-weight c =
+pub returns-in_ok-set_weight : goal.returns-in_ok-set_weight
+returns-in_ok-set_weight c =
     let ws = words c.args.table.now in
     let w = entered c.args.len c.args.value in
     record {
       answer = (
-        c.in-ok-push.ensures.answer.0,
-        c.in-ok-set-weight.ensures.answer.1
-            ∙ ap (λ (l : List Codeword). reweighed l c.len-k.result c.in-Some.weight) c.in-ok-push.ensures.answer.1
+        c.in_ok-push.ensures.answer.0,
+        c.in_ok-set_weight.ensures.answer.1
+            ∙ ap (λ (l : List Codeword). reweighed l c.len-k.result c.in-Some.weight) c.in_ok-push.ensures.answer.1
             ∙ ap (λ (k : ℕ). reweighed (ws ++ w ∷ []) k c.in-Some.weight) c.len-k.ensures.count
             ∙ reweighed_last ws w c.in-Some.weight
             ∙ ap (λ (x : Option ℕ). ws ++ weighed c.args.len c.args.value x ∷ []) (sym c.in-Some.is),

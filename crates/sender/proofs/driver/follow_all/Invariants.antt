@@ -1,4 +1,4 @@
-use Rattle.std.proofs.Common.{◌≡◌, ◌+◌, ◌-◌, ◌≤◌, length, drop, vec_items, vec_len, vec_capacity}
+use Rattle.std.proofs.Common.{◌+◌, ◌-◌, ◌≤◌, length, drop, vec_items, vec_len, vec_capacity}
 use Rattle.script.specs.Script.{lines}
 use Rattle.sender.specs.Effects.{Progress}
 use Rattle.sender.specs.Accounts.{Holds}

@@ -3,7 +3,7 @@ use Rattle.sender.proofs.driver.run.Goals as goal
 
 pub returns : goal.returns
 returns c =
-    let end = c.follow-all.ensures.runs in
+    let end = c.follow_all.ensures.runs in
     record {
       accounts = (
         omega arith,

@@ -1,4 +1,4 @@
-use Rattle.std.proofs.Common.{◌≡◌, ℕ, ◌+◌, ◌*◌, ◌<◌, ◌≤◌, Bool, false, List, [], ◌∷◌, ◌++◌, map, length, get_or, take, sym, refl, ap, ◌∙◌, arith}
+use Rattle.std.proofs.Common.{◌≡◌, ℕ, ◌+◌, ◌<◌, Bool, false, List, [], ◌∷◌, ◌++◌, map, length, get_or, take, sym, ap, ◌∙◌, arith}
 use Rattle.std.proofs.lemmas.List.{take_more, take_all, length-map, length-take-le, map_push}
 use Rattle.codetable.specs.Codewords.{bits}
 use Rattle.codetable.proofs.Bits.{length-bits}
@@ -20,11 +20,11 @@ loop-i-preserved c =
     let len = length-bits w.len w.value in
     let inside : i < length (bits w) = omega arith in
     let long : length before ≡ i = length-map (take i (bits w)) bit_word ∙ length-take-le i (bits w) (omega arith) in
-    let word : c.bit-word.result ≡ bit_word (get_or (bits w) i false) = c.bit-word.ensures.value ∙ ap bit_word c.bit.ensures.value in
-    c.put-word.ensures.written
-    ∙ ap (λ (l : List ℕ). written l (at + i) (c.bit-word.result ∷ [])) c.loop-i.invariant
-    ∙ ap (λ (n : ℕ). written (written b at before) (at + n) (c.bit-word.result ∷ [])) (sym long)
-    ∙ written_more b at before (omega arith) (c.bit-word.result ∷ [])
+    let word : c.bit_word.result ≡ bit_word (get_or (bits w) i false) = c.bit_word.ensures.value ∙ ap bit_word c.bit.ensures.value in
+    c.put_word.ensures.written
+    ∙ ap (λ (l : List ℕ). written l (at + i) (c.bit_word.result ∷ [])) c.loop-i.invariant
+    ∙ ap (λ (n : ℕ). written (written b at before) (at + n) (c.bit_word.result ∷ [])) (sym long)
+    ∙ written_more b at before (omega arith) (c.bit_word.result ∷ [])
     ∙ ap (λ (x : ℕ). written b at (before ++ x ∷ [])) word
     ∙ ap (written b at) (sym (map_push bit_word (take i (bits w)) (get_or (bits w) i false)) ∙ ap (map bit_word) (sym (take_more (bits w) i false inside)))
 

@@ -7,15 +7,15 @@ use Rattle.transfer.specs.Calls.{Stepped}
 use Rattle.transfer.proofs.Carried.{bits_there, length_there, stepped_carries}
 use Rattle.transfer.proofs.state.OpenTransfer.step.Goals as goal
 
-pub returns-in-default : goal.returns-in-default
-returns-in-default c =
+pub returns-in_default : goal.returns-in_default
+returns-in_default c =
     record {
-      answer = (inl (nth_missing (words c.args.table.now) c.args.k (sym c.word.ensures.found ∙ c.in-default.is), refl), (refl, refl));
+      answer = (inl (nth_missing (words c.args.table.now) c.args.k (sym c.word.ensures.found ∙ c.in_default.is), refl), (refl, refl));
       carries = λ _ _ _ _ _. tt;
     }
 
-pub returns-then-self-ge-MOST-STEPS : goal.returns-then-self-ge-MOST-STEPS
-returns-then-self-ge-MOST-STEPS c =
+pub returns-then-self-ge-MOST_STEPS : goal.returns-then-self-ge-MOST_STEPS
+returns-then-self-ge-MOST_STEPS c =
     let ws = words c.args.table.now in
     let there = sym c.in-Some.ensures.found in
     let within = nth_within ws c.args.k c.in-Some.word there in
@@ -24,7 +24,7 @@ returns-then-self-ge-MOST-STEPS c =
       answer = (
         inr (
           λ h. omega arith,
-          inl (⊎_elim (λ h. inl h) (λ h. inr (omega (arith, h.1, c.from.ensures))) c.then-self-ge-MOST-STEPS.either, refl),
+          inl (⊎_elim (λ h. inl h) (λ h. inr (omega (arith, h.1, c.from.ensures))) c.then-self-ge-MOST_STEPS.either, refl),
         ),
         (refl, refl),
       );
@@ -56,11 +56,11 @@ returns c =
     let there = sym c.in-Some.ensures.found in
     let within = nth_within ws k w there in
     let long = length_there ws k w there in
-    let done : Stepped ws k c.args.self _ c.args.buffer.now c.put-bits.new.buffer =
+    let done : Stepped ws k c.args.self _ c.args.buffer.now c.put_bits.new.buffer =
     record {
       steps = refl;
       bits = ap (λ (n : ℕ). c.args.self.bits + n) (c.from.ensures ∙ sym long);
-      buffer = c.put-bits.ensures.written ∙ ap (λ (l : List Bool). written c.args.buffer.now c.args.self.bits (map bit_word l)) (sym (bits_there ws k w there));
+      buffer = c.put_bits.ensures.written ∙ ap (λ (l : List Bool). written c.args.buffer.now c.args.self.bits (map bit_word l)) (sym (bits_there ws k w there));
     } in
     record {
       answer = (
@@ -69,5 +69,5 @@ returns c =
       );
       carries = λ before sent v h e.
           let same : length (bits_at ws k) ≡ v.len = length_there ws k v e in
-          stepped_carries c.args.self before c.args.buffer.now c.put-bits.new.buffer sent h ws k v _ e (omega arith) done;
+          stepped_carries c.args.self before c.args.buffer.now c.put_bits.new.buffer sent h ws k v _ e (omega arith) done;
     }
