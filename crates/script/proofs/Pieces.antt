@@ -2,14 +2,14 @@
 use Rattle.std.proofs.Common.{◌≡◌, ℕ, ◌+◌, ◌-◌, ◌<◌, ◌≤◌, Bool, true, false, List, [], ◌∷◌, ◌++◌, length, get_or, drop, filter, sym, refl, ap, ◌∙◌, subst, ⊎_elim, append-nil, add-zero, arith}
 use Rattle.std.proofs.lemmas.List.{take-append-drop, take_all, take_rest, drop-drop, drop_more, length-drop, length-take-le, get_or-drop}
 use Rattle.std.proofs.lemmas.Bool.{cond-true, cond-false, cases_lt, not-false, both_ways, not-true}
-use Rattle.std.specs.List.{between, AllByRecursion as All}
+use Rattle.std.specs.List.{between, AllByRecursion}
 use Rattle.script.specs.Scan.{stops, FirstAt}
 use Rattle.script.specs.Script.{onto, pieces, blank, filled, fields}
 use Rattle.script.specs.declared.Stop.TheVariants.{Blank, Solid}
 
 module _ (test : ℕ → Bool) where
   abbrev Clear : List ℕ → Type 0
-  Clear p = All (λ b. test b ≡ false) p
+  Clear p = AllByRecursion (λ b. test b ≡ false) p
 
   last_piece : (p : List ℕ) → Clear p → pieces test p ≡ p ∷ []
   last_piece [] h = refl
@@ -53,16 +53,16 @@ module _ {test : ℕ → Bool} {bs : List ℕ} {from to : ℕ} (h : FirstAt test
       (cases_lt to (length bs))
 
 -- blanks in front change no field
-skip : (ws bs : List ℕ) → All (λ b. stops Solid b ≡ false) ws → fields (ws ++ bs) ≡ fields bs
+skip : (ws bs : List ℕ) → AllByRecursion (λ b. stops Solid b ≡ false) ws → fields (ws ++ bs) ≡ fields bs
 skip [] bs h = refl
 skip (w ∷ ws) bs h = ap (filter filled) (cond-true _ _ _ (not-false _ h.0)) ∙ skip ws bs h.1
 
 -- a line of blanks
 pub no_field : (line : List ℕ) (start : ℕ) → FirstAt (stops Solid) line 0 start → length line ≤ start → fields line ≡ []
-no_field line start h le = ap fields (sym (append-nil line)) ∙ skip line [] (subst (All (λ b. stops Solid b ≡ false)) (passed_all h le) h.passed)
+no_field line start h le = ap fields (sym (append-nil line)) ∙ skip line [] (subst (AllByRecursion (λ b. stops Solid b ≡ false)) (passed_all h le) h.passed)
 
 -- a field, and after it nothing or a blank
-begins : (p rest : List ℕ) → filled p ≡ true → All (λ b. blank b ≡ false) p → (0 < length rest → blank (get_or rest 0 0) ≡ true) → fields (p ++ rest) ≡ p ∷ fields rest
+begins : (p rest : List ℕ) → filled p ≡ true → AllByRecursion (λ b. blank b ≡ false) p → (0 < length rest → blank (get_or rest 0 0) ≡ true) → fields (p ++ rest) ≡ p ∷ fields rest
 begins p [] f h e = ap fields (append-nil p) ∙ ap (filter filled) (last_piece blank p h) ∙ cond-true _ _ _ f
 begins p (x ∷ q) f h e =
     let b = e (omega arith) in

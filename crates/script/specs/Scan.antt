@@ -1,6 +1,6 @@
 -- How far a scan of bytes goes.
 use Rattle.std.specs.Prelude.{◌≡◌, ℕ, ◌<◌, ◌≤◌, Bool, true, false, not, List, [], ◌∷◌, length, Ok, Err, Result, slice_index}
-use Rattle.std.specs.List.{between, AllByRecursion as All}
+use Rattle.std.specs.List.{between, AllByRecursion}
 use Rattle.script.specs.declared.LineFault.{LineFault}
 use Rattle.script.specs.declared.LineFault.TheVariants.{Extra}
 use Rattle.script.specs.declared.Stop.{Stop}
@@ -17,7 +17,7 @@ pub record FirstAt (test : ℕ → Bool) (bs : List ℕ) (from to : ℕ) : Type 
   pub ahead : from ≤ to
   pub within : from ≤ length bs → to ≤ length bs
   pub past : length bs ≤ from → to ≡ from
-  pub passed : All (λ b. test b ≡ false) (between from to bs)
+  pub passed : AllByRecursion (λ b. test b ≡ false) (between from to bs)
   pub found : to < length bs → test (slice_index bs to) ≡ true
 
 -- no field is left

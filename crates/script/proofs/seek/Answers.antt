@@ -1,7 +1,7 @@
 use Rattle.std.proofs.Common.{◌≡◌, false, sym, subst, arith}
 use Rattle.std.proofs.lemmas.List.Edits.{between_more}
 use Rattle.std.proofs.ByRecursion.{All-push}
-use Rattle.std.specs.List.{AllByRecursion as All}
+use Rattle.std.specs.List.{AllByRecursion}
 use Rattle.script.specs.Scan.{stops}
 use Rattle.script.proofs.seek.Goals as goal
 
@@ -13,5 +13,5 @@ loop-at-preserved c =
       omega arith,
       λ within. omega arith,
       λ past. omega arith,
-      subst (All (λ b. stops c.args.stop b ≡ false)) (sym one_more) (All-push _ _ _ inv.3 (sym c.if-not-at.ensures.value)),
+      subst (AllByRecursion (λ b. stops c.args.stop b ≡ false)) (sym one_more) (All-push _ _ _ inv.3 (sym c.if-not-at.ensures.value)),
     )

@@ -1,5 +1,5 @@
 use Rattle.std.proofs.Common.{◌≡◌, ◌-◌, ◌≤◌, false, length}
-use Rattle.std.specs.List.{between, AllByRecursion as All}
+use Rattle.std.specs.List.{between, AllByRecursion}
 use Rattle.script.specs.Scan.{stops}
 use Rattle.script.proofs.seek.Given as goal
 
@@ -9,7 +9,7 @@ invariant-loop-at l =
     (l.from ≤ l.at)
     × (l.from ≤ length l.bytes → l.at ≤ length l.bytes)
     × (length l.bytes ≤ l.from → l.at ≡ l.from)
-    × All (λ b. stops l.stop b ≡ false) (between l.from l.at l.bytes)
+    × AllByRecursion (λ b. stops l.stop b ≡ false) (between l.from l.at l.bytes)
 
 abbrev pub decreases-loop-at : goal.decreases-loop-at
 decreases-loop-at l = length l.bytes - l.at
