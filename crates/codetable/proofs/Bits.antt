@@ -71,7 +71,7 @@ pub below_pow : (n v : ℕ) → v ≤ largest n → v < 2 ^ n
 below_pow n v h = let e = largest_pow n in omega arith
 
 -- A value of m bits is the start of one of n bits just if it is that one shifted down by the bits that are left.
-module _ (m n a b : ℕ) (short : m ≤ n) (fits-a : a < 2 ^ m) (fits-b : b < 2 ^ n) where
+module _ (m n a b : ℕ) (short : m ≤ n) (fits_a : a < 2 ^ m) (fits_b : b < 2 ^ n) where
   cut_at : bits_of n b ≡ bits_of m (b / 2 ^ (n - m)) ++ bits_of (n - m) b
   cut_at = let whole : m + (n - m) ≡ n = omega arith in ap (λ (i : ℕ). bits_of i b) (sym whole) ∙ bits_cut m (n - m) b
 
@@ -85,8 +85,8 @@ module _ (m n a b : ℕ) (short : m ≤ n) (fits-a : a < 2 ^ m) (fits-b : b < 2 
       ∙ ap (take m) (sym cut_at ∙ p.1)
       ∙ take_at (bits_of m a) p.0 m (length-bits m a) in
       let whole : m + (n - m) ≡ n = omega arith in
-      let fits : b / 2 ^ (n - m) < 2 ^ m = shr_below b m (n - m) (subst (λ (i : ℕ). b < 2 ^ i) (sym whole) fits-b) in
-      sym (mod-eq_of_lt fits) ∙ bits_tell m (b / 2 ^ (n - m)) a front ∙ mod-eq_of_lt fits-a
+      let fits : b / 2 ^ (n - m) < 2 ^ m = shr_below b m (n - m) (subst (λ (i : ℕ). b < 2 ^ i) (sym whole) fits_b) in
+      sym (mod-eq_of_lt fits) ∙ bits_tell m (b / 2 ^ (n - m)) a front ∙ mod-eq_of_lt fits_a
 
 -- a start is not longer
 pub prefix_short : (m n a b : ℕ) → Prefix (bits_of m a) (bits_of n b) → m ≤ n

@@ -89,14 +89,14 @@ module _ (ws : List Codeword) (v : Codeword) where
   pub pushed_apart : (Clash ws → ⊥) → (Clashes ws v → ⊥) → Clash (ws ++ v ∷ []) → ⊥
   pushed_apart free new c =
       ⊎_elim
-      (λ old-i.
+      (λ old_i.
       ⊎_elim
-      (λ old-j. free (record { i = c.i; j = c.j; a = c.a; b = c.b; apart = c.apart; at_i = old-i; at_j = old-j; start = c.start }))
-      (λ last. new (c.i, c.a, old-i, inl (subst (λ (w : Codeword). Prefix (bits c.a) (bits w)) last.1 c.start)))
+      (λ old_j. free (record { i = c.i; j = c.j; a = c.a; b = c.b; apart = c.apart; at_i = old_i; at_j = old_j; start = c.start }))
+      (λ last. new (c.i, c.a, old_i, inl (subst (λ (w : Codeword). Prefix (bits c.a) (bits w)) last.1 c.start)))
       (pushed_cases ws v c.j c.b c.at_j))
-      (λ last-i.
+      (λ last_i.
       ⊎_elim
-      (λ old-j. new (c.j, c.b, old-j, inr (subst (λ (w : Codeword). Prefix (bits w) (bits c.b)) last-i.1 c.start)))
-      (λ last-j. c.apart (last-i.0 ∙ sym last-j.0))
+      (λ old_j. new (c.j, c.b, old_j, inr (subst (λ (w : Codeword). Prefix (bits w) (bits c.b)) last_i.1 c.start)))
+      (λ last_j. c.apart (last_i.0 ∙ sym last_j.0))
       (pushed_cases ws v c.j c.b c.at_j))
       (pushed_cases ws v c.i c.a c.at_i)

@@ -38,7 +38,7 @@ module _ (ws : List Codeword) (vs : List ℤ) (i j k : ℕ) (w : Codeword) (ks :
   better_last : (ls : List ℕ) → Fits ws (j + w.len) (i + 1) (ls ++ k ∷ []) → (ls ++ k ∷ [] ≡ ks ++ k ∷ [] → ⊥) → metric ws vs (ls ++ k ∷ []) ≡ metric ws vs (ks ++ k ∷ []) → Better ws vs (ks ++ k ∷ []) (ls ++ k ∷ [])
   better_last ls f differ same =
       let l = fits_last ws (j + w.len) i ls k f in
-      let at-l = l.at_k in
+      let at_l = l.at_k in
       let word : l.w ≡ w = cc in
       let long : l.w.len ≡ w.len = ap (λ (x : Codeword). x.len) word in
       let fits : Fits ws j i ls = fits_as (omega (arith, l.sum)) refl l.fits in

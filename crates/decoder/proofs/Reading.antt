@@ -38,14 +38,14 @@ module _ (ws : List Codeword) (vs : List ℤ) (word_count : ℕ) (s : Sound ws v
   pub reading_start : Searched ws vs word_count costs → (at : List ℕ) → length at ≡ most_list → Reading ws vs word_count costs at 0 (length vs) word_count
   unfolding over
   reading_start p at room =
-      let open-there = finish_open ws vs word_count s p.limit p.m p.q p.before costs p.leaves p.least in
+      let open_there = finish_open ws vs word_count s p.limit p.m p.q p.before costs p.leaves p.least in
       record {
         searched = p;
         few = omega arith;
         within = omega arith;
         room = room;
-        e = open-there.0;
-        opened = open-there.1;
+        e = open_there.0;
+        opened = open_there.1;
         best = λ ks b. subst (λ (l : List ℕ). Best ws vs (length vs) word_count l) (sym (ap (λ (l : List ℕ). ks ++ l) (none_behind at) ∙ append-nil ks)) b;
         counted = sym (ap (λ (l : List ℕ). over changes (joined_bits ws l) (drop (length vs) vs)) (none_behind at));
       }

@@ -55,15 +55,15 @@ module _ (ws : List Codeword) (vs : List ℤ) (word_count : ℕ) (s : Sound ws v
         let r = trellis_place (i + 1) (j + w.len) in
         let est = law.estimated p r (share w (drop j vs)) next.0 edge next.1.estimate in
         let low = law.consistent p r (share w (drop j vs)) est.0 next.0 edge est.1 next.1.estimate in
-        let within-limit : cost_at after r + next.0 ≤ limit = next.1.within in
+        let within_limit : cost_at after r + next.0 ≤ limit = next.1.within in
         path_open i j c est.0 (omega arith) (omega arith) path est.1 (omega arith)
 
     -- and at the cost of the path
     before_cost : (c : ℕ) → Path (trellis ws vs word_count) (trellis_place i j) c → c + share w (drop j vs) ≡ cost_at after (trellis_place (i + 1) (j + w.len)) → cost_at after (trellis_place i j) ≡ c
     before_cost c path sum =
-        let here-open = before_open c path sum in
-        let low = here-open.1.least.least c path in
-        let high = next.1.least.least (cost_at after (trellis_place i j) + share w (drop j vs)) (on here-open.1.least.path edge) in
+        let here_open = before_open c path sum in
+        let low = here_open.1.least.least c path in
+        let high = next.1.least.least (cost_at after (trellis_place i j) + share w (drop j vs)) (on here_open.1.least.path edge) in
         omega arith
 
     before_matches : (c : ℕ) → Path (trellis ws vs word_count) (trellis_place i j) c → c + share w (drop j vs) ≡ cost_at after (trellis_place (i + 1) (j + w.len)) → ComesLast vs after i j w
@@ -147,8 +147,8 @@ module _ (ws : List Codeword) (vs : List ℤ) (word_count : ℕ) (s : Sound ws v
   pub traced_best : (i j k : ℕ) (w : Codeword) (ks : List ℕ) → i < word_count → slice_get ws k ≡ Some w → j + w.len ≤ length vs → AtOpen (i + 1) (j + w.len) → ComesLast vs after i j w → ((k' : ℕ) (w' : Codeword) (b : ℕ) → k' < k → slice_get ws k' ≡ Some w' → j + w.len ≡ b + w'.len → ComesLast vs after i b w' → ⊥) → Best ws vs j i ks → Best ws vs (j + w.len) (i + 1) (ks ++ k ∷ [])
   traced_best i j k w ks more at_k within next sum lowest b =
       let n = j + w.len in
-      let here-open = matches_open i j k w more at_k within next sum in
-      let cost = least_metric ws vs word_count s i j (cost_at after (trellis_place i j)) ks (omega arith) (omega arith) here-open.1.least b in
+      let here_open = matches_open i j k w more at_k within next sum in
+      let cost = least_metric ws vs word_count s i j (cost_at after (trellis_place i j)) ks (omega arith) (omega arith) here_open.1.least b in
       let push = metric_on ws vs j i k w ks at_k b.fits in
       let whole : metric ws vs (ks ++ k ∷ []) ≡ cost_at after (trellis_place (i + 1) n) = omega arith in
       best_push ws vs i j k w ks at_k b

@@ -53,7 +53,7 @@ unfolding over
 over_most [] vs all = zero-le
 over_most (b ∷ bs) [] all = zero-le
 over_most (b ∷ bs) (v ∷ vs) all =
-    let here-most = penalty_most b v (all zero v refl) in
+    let here_most = penalty_most b v (all zero v refl) in
     let rest = over_most bs vs (λ k. all (suc k)) in
     omega arith
 
@@ -219,7 +219,7 @@ module _ (ws : List Codeword) (vs : List ℤ) (word_count : ℕ) (s : Sound ws v
   path_most (on {p} {q} {c} {d} path edge) =
       let before = path_most path in
       let laid = (stepped ws vs word_count p q d edge).1 in
-      let Words-more = laid_words laid in
+      let words_more = laid_words laid in
       let cost = laid_costs laid in
       omega arith
 

@@ -13,10 +13,10 @@ abbrev pub most_list : ℕ
 most_list = 32
 
 -- a list of words fits if it has so many words, and their joined bits are so many
-pub record Fits (ws : List Codeword) (bit-count word_count : ℕ) (ks : List ℕ) : Type 0 where
+pub record Fits (ws : List Codeword) (bit_count word_count : ℕ) (ks : List ℕ) : Type 0 where
   pub words : Sequence ws ks
   pub count : length ks ≡ word_count
-  pub bits : length (joined_bits ws ks) ≡ bit-count
+  pub bits : length (joined_bits ws ks) ≡ bit_count
 
 -- a bit is contradicted if it differs from the hard bit of the value at its place
 abbrev pub contradicts : Bool → ℤ → Bool
@@ -73,13 +73,13 @@ abbrev pub Better : List Codeword → List ℤ → List ℕ → List ℕ → Typ
 Better ws vs ks ls = (metric ws vs ks < metric ws vs ls) ⊎ ((metric ws vs ks ≡ metric ws vs ls) × LowerLast ks ls)
 
 -- ks is the best list of so many words and bits: it fits, and is better than every other list that fits
-pub record Best (ws : List Codeword) (vs : List ℤ) (bit-count word_count : ℕ) (ks : List ℕ) : Type 0 where
-  pub fits : Fits ws bit-count word_count ks
-  pub best : (ls : List ℕ) → Fits ws bit-count word_count ls → (ls ≢ ks) → Better ws vs ks ls
+pub record Best (ws : List Codeword) (vs : List ℤ) (bit_count word_count : ℕ) (ks : List ℕ) : Type 0 where
+  pub fits : Fits ws bit_count word_count ks
+  pub best : (ls : List ℕ) → Fits ws bit_count word_count ls → (ls ≢ ks) → Better ws vs ks ls
 
 -- no list fits
 abbrev pub NoneFits : List Codeword → ℕ → ℕ → Type 0
-NoneFits ws bit-count word_count = (ks : List ℕ) → Fits ws bit-count word_count ks → ⊥
+NoneFits ws bit_count word_count = (ks : List ℕ) → Fits ws bit_count word_count ks → ⊥
 
 -- The correction guarantee: ks is the list that was sent if the table has two words or more, all of one weight, every
 -- magnitude is at least m, and twice the magnitudes that the sent list contradicts are less than m times the free distance.

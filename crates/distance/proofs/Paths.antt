@@ -68,14 +68,14 @@ module _ (ws : List Codeword) (s : Sound ws) where
       let behind' = behind ++ j ∷ [] in
       let other' = sequence_push ws behind j other (nth_within ws j m.b m.at_j) in
       let bits' : joined_bits ws behind' ≡ B ++ w = joined_push ws behind j ∙ ap (λ (l : List Bool). B ++ l) (bits_there ws j m.b m.at_j) in
-      let long-a = long i m.a m.at_i in
-      let long-b = long j m.b m.at_j in
-      let short-a = (s.formed i m.a m.at_i).1 in
-      let short-b = (s.formed j m.b m.at_j).1 in
-      let long-t : length t ≡ left = length-drop c (bits m.a) ∙ ap (λ (x : ℕ). x - c) long-a.1 in
-      let over : length A - length B ≡ left = sym (length-drop (length B) A) ∙ ap length beyond ∙ long-t in
-      let long-A : length A ≡ length B + left = omega arith in
-      let long-B : length (B ++ w) ≡ length B + n = length-append B w ∙ ap (λ (x : ℕ). length B + x) long-b.1 in
+      let long_a = long i m.a m.at_i in
+      let long_b = long j m.b m.at_j in
+      let short_a = (s.formed i m.a m.at_i).1 in
+      let short_b = (s.formed j m.b m.at_j).1 in
+      let long_t : length t ≡ left = length-drop c (bits m.a) ∙ ap (λ (x : ℕ). x - c) long_a.1 in
+      let over : length A - length B ≡ left = sym (length-drop (length B) A) ∙ ap length beyond ∙ long_t in
+      let long_A : length A ≡ length B + left = omega arith in
+      let long_B : length (B ++ w) ≡ length B + n = length-append B w ∙ ap (λ (x : ℕ). length B + x) long_b.1 in
       let step : e ≡ hamming t w = ap (λ (x : ℕ × ℕ). x.1) m.leads in
       let more = hamming_behind B w A in
       let swap = hamming_sym B A in
@@ -101,7 +101,7 @@ module _ (ws : List Codeword) (s : Sound ws) where
                 word = m.b;
                 at_k = m.at_j;
                 less = lt;
-                beyond = ap (drop (length A)) bits' ∙ ap (λ (x : ℕ). drop x (B ++ w)) long-A ∙ drop-append-add B w left;
+                beyond = ap (drop (length A)) bits' ∙ ap (λ (x : ℕ). drop x (B ++ w)) long_A ∙ drop-append-add B w left;
                 cost = one_way;
               };
             }))
@@ -121,7 +121,7 @@ module _ (ws : List Codeword) (s : Sound ws) where
                 word = m.a;
                 at_k = m.at_i;
                 less = omega arith;
-                beyond = ap (λ (l : List Bool). drop (length l) A) bits' ∙ ap (λ (x : ℕ). drop x A) long-B ∙ sym (drop-drop n (length B) A) ∙ ap (drop n) beyond ∙ drop-drop n c (bits m.a);
+                beyond = ap (λ (l : List Bool). drop (length l) A) bits' ∙ ap (λ (x : ℕ). drop x A) long_B ∙ sym (drop-drop n (length B) A) ∙ ap (drop n) beyond ∙ drop-drop n c (bits m.a);
                 cost = other_way;
               };
             }))
@@ -226,15 +226,15 @@ module _ (ws : List Codeword) (s : Sound ws) where
       let K = joined_bits ws ks in
       let L = joined_bits ws ls in
       let left = a.len - c in
-      let long-t : length t ≡ left = length-drop c (bits a) ∙ ap (λ (x : ℕ). x - c) (long i a at_i).1 in
-      let long-w = (long j b at_j).1 in
+      let long_t : length t ≡ left = length-drop c (bits a) ∙ ap (λ (x : ℕ). x - c) (long i a at_i).1 in
+      let long_w = (long j b at_j).1 in
       let gone : drop (length w) t ≡ [] = drop_all (length w) t (omega arith) in
       let whole = length-append w K in
       let whole' = length-append t L in
       let rest = length-append (drop left w) K in
       let rest' = length-drop left w in
       let cut : hamming (w ++ K) (t ++ L) ≡ hamming t w + hamming L (drop left w ++ K) =
-      hamming_cut t w K L ∙ ap (λ (x : ℕ). hamming t w + hamming (drop x w ++ K) (drop (length w) t ++ L)) long-t ∙ ap (λ (l : List Bool). hamming t w + hamming (drop left w ++ K) (l ++ L)) gone ∙ ap (λ (x : ℕ). hamming t w + x) (hamming_sym (drop left w ++ K) L) in
+      hamming_cut t w K L ∙ ap (λ (x : ℕ). hamming t w + hamming (drop x w ++ K) (drop (length w) t ++ L)) long_t ∙ ap (λ (l : List Bool). hamming t w + hamming (drop left w ++ K) (l ++ L)) gone ∙ ap (λ (x : ℕ). hamming t w + x) (hamming_sym (drop left w ++ K) L) in
       reach_most (d + hamming t w + hamming L (drop left w ++ K)) (d + hamming (w ++ K) (t ++ L)) (omega arith)
       (on_tail n finishes (d + hamming t w) j left b path at_j (omega arith) shorter ls ks in-l in-k (omega arith) (omega arith))
   finishes_way n finishes d i c j a b r (tail_longer shorter) path at_i at_j less ks ls in-k in-l eq lt =
@@ -243,11 +243,11 @@ module _ (ws : List Codeword) (s : Sound ws) where
       let K = joined_bits ws ks in
       let L = joined_bits ws ls in
       let n' = b.len in
-      let long-a = (long i a at_i).1 in
-      let long-t : length t ≡ a.len - c = length-drop c (bits a) ∙ ap (λ (x : ℕ). x - c) long-a in
-      let long-w = long j b at_j in
+      let long_a = (long i a at_i).1 in
+      let long_t : length t ≡ a.len - c = length-drop c (bits a) ∙ ap (λ (x : ℕ). x - c) long_a in
+      let long_w = long j b at_j in
       let gone : drop (length t) w ≡ [] = drop_all (length t) w (omega arith) in
-      let tail : drop (length w) t ≡ drop (c + n') (bits a) = ap (λ (x : ℕ). drop x t) long-w.1 ∙ drop-drop n' c (bits a) in
+      let tail : drop (length w) t ≡ drop (c + n') (bits a) = ap (λ (x : ℕ). drop x t) long_w.1 ∙ drop-drop n' c (bits a) in
       let whole = length-append w K in
       let whole' = length-append t L in
       let rest = length-append (drop (c + n') (bits a)) L in
@@ -280,11 +280,11 @@ module _ (ws : List Codeword) (s : Sound ws) where
       let other = nth_there ws y (λ ge. omega (arith, in-l.0)) in
       let a = one.0 in
       let b = other.0 in
-      let there-a = bits_there ws x a one.1 in
-      let there-b = bits_there ws y b other.1 in
-      let eq' : length (bits b ++ joined_bits ws ls) ≡ length (bits a ++ joined_bits ws ks) = ap (λ (l : List Bool). length (l ++ joined_bits ws ls)) (sym there-b) ∙ sym eq ∙ ap (λ (l : List Bool). length (l ++ joined_bits ws ks)) there-a in
+      let there_a = bits_there ws x a one.1 in
+      let there_b = bits_there ws y b other.1 in
+      let eq' : length (bits b ++ joined_bits ws ls) ≡ length (bits a ++ joined_bits ws ks) = ap (λ (l : List Bool). length (l ++ joined_bits ws ls)) (sym there_b) ∙ sym eq ∙ ap (λ (l : List Bool). length (l ++ joined_bits ws ks)) there_a in
       let some = (s.formed x a one.1).0 in
-      let whole : hamming (bits b ++ joined_bits ws ls) (bits a ++ joined_bits ws ks) ≡ distance ws (y ∷ ls) (x ∷ ks) = ap (λ (l : List Bool). hamming (l ++ joined_bits ws ls) (bits a ++ joined_bits ws ks)) (sym there-b) ∙ ap (λ (l : List Bool). hamming (bits_at ws y ++ joined_bits ws ls) (l ++ joined_bits ws ks)) (sym there-a) in
+      let whole : hamming (bits b ++ joined_bits ws ls) (bits a ++ joined_bits ws ks) ≡ distance ws (y ∷ ls) (x ∷ ks) = ap (λ (l : List Bool). hamming (l ++ joined_bits ws ls) (bits a ++ joined_bits ws ks)) (sym there_b) ∙ ap (λ (l : List Bool). hamming (bits_at ws y ++ joined_bits ws ls) (l ++ joined_bits ws ks)) (sym there_a) in
       reach_most (0 + hamming (bits b ++ joined_bits ws ls) (bits a ++ joined_bits ws ks)) (distance ws (y ∷ ls) (x ∷ ks)) (omega arith)
       (finishes (suc (length ls + length ks)) start_place 0 x 0 y a b here (first_edge ws x y a b lt one.1 other.1) one.1 other.1 (omega arith) ls ks in-l.1 in-k.1 eq' (omega arith))
 

@@ -57,9 +57,9 @@ leads_to i c left j n =
     (cases_lt left n)
 
 inside_by : (i c len j n r : ℕ) → Leads i c (len - c) j n r → i < most_words → j < most_words → len ≤ most_bits → n ≤ most_bits → c ≤ len → r < place_count
-inside_by i c len j n r (word_longer lt) low-i low-j short-a short-b within = omega arith
-inside_by i c len j n r (tail_longer lt) low-i low-j short-a short-b within = omega arith
-inside_by i c len j n r (equal e) low-i low-j short-a short-b within = lit< tt
+inside_by i c len j n r (word_longer lt) low_i low_j short-a short-b within = omega arith
+inside_by i c len j n r (tail_longer lt) low_i low_j short-a short-b within = omega arith
+inside_by i c len j n r (equal e) low_i low_j short-a short-b within = lit< tt
 
 ends_there : (ws : List Codeword) (o : Option Codeword) → tail_edges ws 0 0 o ≡ []
 ends_there ws None = refl
@@ -69,8 +69,8 @@ module _ (ws : List Codeword) (s : Sound ws) where
   -- a comparison leads to a place, and costs no more than a word has bits
   led_inside : {i c j q d : ℕ} (m : Compares ws i c j q d) → c ≤ m.a.len → q < place_count
   led_inside {i} {c} {j} {q} {d} m within =
-      let low-i = nth_within ws i m.a m.at_i in
-      let low-j = nth_within ws j m.b m.at_j in
+      let low_i = nth_within ws i m.a m.at_i in
+      let low_j = nth_within ws j m.b m.at_j in
       let few = s.few in
       let there = inside_by i c m.a.len j m.b.len (next_place i c (m.a.len - c) j m.b.len) (leads_to i c (m.a.len - c) j m.b.len) (omega arith) (omega arith) (s.formed i m.a m.at_i).1 (s.formed j m.b m.at_j).1 within in
       subst (λ (r : ℕ). r < place_count) (sym (ap (λ (e : ℕ × ℕ). e.0) m.leads)) there

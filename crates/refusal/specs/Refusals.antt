@@ -4,7 +4,7 @@ use Rattle.refusal.specs.declared.Refusal.{Refusal}
 use Rattle.refusal.specs.declared.Refusal.TheVariants.{Table, Take, Search, Memory, Transfer, Queue, File}
 use Rattle.refusal.specs.declared.TableFault.TheVariants as table
 use Rattle.refusal.specs.declared.TakeFault.TheVariants as take
-use Rattle.refusal.specs.declared.SearchFault.TheVariants as search-fault
+use Rattle.refusal.specs.declared.SearchFault.TheVariants as search_fault
 use Rattle.refusal.specs.declared.MemoryFault.TheVariants as memory
 use Rattle.refusal.specs.declared.TransferFault.TheVariants as transfer
 use Rattle.refusal.specs.declared.QueueFault.TheVariants as queue
@@ -74,9 +74,9 @@ number (Table table.NoWord) = no_word
 number (Table table.NoPair) = no_pair
 number (Take take.Full) = full
 number (Take take.OffScale) = off_scale
-number (Search search-fault.BadCount) = bad_count
-number (Search search-fault.Short) = short
-number (Search search-fault.NoFit) = no_fit
+number (Search search_fault.BadCount) = bad_count
+number (Search search_fault.Short) = short
+number (Search search_fault.NoFit) = no_fit
 number (Memory memory.BadCount) = bad_count
 number (Memory memory.Nothing) = nothing
 number (Transfer transfer.Full) = full

@@ -158,7 +158,7 @@ module _ (g : Graph) (law : Lawful g) (before costs : List ℕ) (m q : Model) (n
   -- the start is offered at cost 0
   pub begun_start : (s : ℕ) → Some s ≡ g.estimate at → s ≤ unknown → (after : List ℕ) (q' : Model) → Lowers costs after q q' at 0 s → Begins g before after m q'
   begun_start s es fits after q' l =
-      let here-lowers : Lowers costs after q q' g.start 0 s = subst (λ (x : ℕ). Lowers costs after q q' x 0 s) starts l in
+      let here_lowers : Lowers costs after q q' g.start 0 s = subst (λ (x : ℕ). Lowers costs after q q' x 0 s) starts l in
       let blank = cleared.blank g.start law.start in
-      let w = here-lowers.less (omega arith) in
+      let w = here_lowers.less (omega arith) in
       subst (λ (x : List ℕ). Begins g before x m q') (sym w.0) (begins_start g law before costs m q (omega (arith, emptied.size)) long cleared emptied.bare emptied.size s (ap g.estimate (sym starts) ∙ sym es) fits q' w.1)

@@ -12,8 +12,8 @@ use Rattle.search.proofs.Counting.{counted, Tells, tally_past}
 
 -- less than what is within a limit is within it
 within_less : (limit : Option ℕ) (a b : ℕ) → a ≤ b → Within limit b → Within limit a
-within_less None a b le in-it = tt
-within_less (Some l) a b le in-it = omega arith
+within_less None a b le in_it = tt
+within_less (Some l) a b le in_it = omega arith
 
 -- the search is at its end for a limit: no waiting place is within it, and every opened one and the start are
 pub record Ends (g : Graph) (costs : List ℕ) (q : Model) (limit : Option ℕ) : Type 0 where
@@ -36,7 +36,7 @@ module _ (g : Graph) (law : Lawful g) (costs : List ℕ) (q : Model) (s : Search
   pub ended_none : cost_at costs g.finish ≡ unknown → NoneWithin q (cost_at costs g.finish) → Ends g costs q None
   ended_none no_cost over =
       record {
-        over = λ p k is in-it. omega (arith, over p k is, f.fits p k is);
+        over = λ p k is in_it. omega (arith, over p k is, f.fits p k is);
         within = λ p e done ee. tt;
         start = λ e ee. tt;
       }
@@ -54,7 +54,7 @@ module _ (g : Graph) (law : Lawful g) (costs : List ℕ) (q : Model) (s : Search
   pub ended_some : cost_at costs g.finish < unknown → NoneWithin q (cost_at costs g.finish) → Ends g costs q (Some (cost_at costs g.finish))
   ended_some known over =
       record {
-        over = λ p k is in-it. omega (arith, over p k is);
+        over = λ p k is in_it. omega (arith, over p k is);
         within = λ p e done ee. omega (arith, f.low p e done ee, f.finish);
         start = λ e ee.
             let most = estimate_most g law e ee (f.paths g.finish law.finish known) 0 law.nearest in
@@ -64,10 +64,10 @@ module _ (g : Graph) (law : Lawful g) (costs : List ℕ) (q : Model) (s : Search
   module _ (limit : Option ℕ) (end : Ends g costs q limit) where
     -- a path within the limit leads to a place that the search opened
     reaches : (p c e : ℕ) → Path g p c → g.estimate p ≡ Some e → Within limit (c + e) → Done g costs q p × (cost_at costs p ≤ c)
-    reaches p c e path ee in-it =
+    reaches p c e path ee in_it =
         ⊎_elim
         (λ h. h)
-        (λ h. absurd (end.over h.0 h.1 h.2 (within_less limit h.1 (c + e) h.3 in-it)))
+        (λ h. absurd (end.over h.0 h.1 h.2 (within_less limit h.1 (c + e) h.3 in_it)))
         (ahead g law costs q s.level f s.relaxed path e ee)
 
     opened_done : (p c e : ℕ) → Opened g limit p c e → Done g costs q p
@@ -160,8 +160,8 @@ module _ (g : Graph) (law : Lawful g) (costs : List ℕ) (q : Model) (s : Search
     leaves m before size rest =
         record {
           places = outcome;
-          whole = λ p c e path ee in-it.
-              (cost_at costs p, done_opened p e (reaches p c e path ee in-it).0 ee);
+          whole = λ p c e path ee in_it.
+              (cost_at costs p, done_opened p e (reaches p c e path ee in_it).0 ee);
           bare = f.bare;
           rest = rest;
           size = size;

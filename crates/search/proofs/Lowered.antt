@@ -68,9 +68,9 @@ module _ (g : Graph) (costs : List ℕ) (q : Model) (place n : ℕ) (r : Relaxin
       }
 
 -- the cost of the place t is lowered, and it is offered
-module _ (g : Graph) (law : Lawful g) (costs : List ℕ) (q : Model) (place n : ℕ) (r : Relaxing g costs q place n) (t d e : ℕ) (at_Edge : Some (t, d) ≡ nth (g.edges place) n) (at_end : Some e ≡ g.estimate t) where
+module _ (g : Graph) (law : Lawful g) (costs : List ℕ) (q : Model) (place n : ℕ) (r : Relaxing g costs q place n) (t d e : ℕ) (at_edge : Some (t, d) ≡ nth (g.edges place) n) (at_end : Some e ≡ g.estimate t) where
   edge : nth (g.edges place) n ≡ Some (t, d)
-  edge = sym at_Edge
+  edge = sym at_edge
 
   ee : g.estimate t ≡ Some e
   ee = sym at_end
@@ -231,7 +231,7 @@ module _ (g : Graph) (law : Lawful g) (costs : List ℕ) (q : Model) (place n : 
               (λ h.
               let s = law.estimated place t d e (n, edge) ee in
               let step = law.consistent place t d s.0 e (n, edge) s.1 ee in
-              let is-guess : guess (g.estimate place) ≡ s.0 = ap guess s.1 in
+              let is_guess : guess (g.estimate place) ≡ s.0 = ap guess s.1 in
               omega (arith, key_here p k is h))
               (λ h. f.high p k (key_was p k is h))
               (cases_eq p t);
@@ -240,7 +240,7 @@ module _ (g : Graph) (law : Lawful g) (costs : List ℕ) (q : Model) (place n : 
               (λ h.
               let s = law.estimated place t d e (n, edge) ee in
               let step = law.consistent place t d s.0 e (n, edge) s.1 ee in
-              let is-guess : guess (g.estimate place) ≡ s.0 = ap guess s.1 in
+              let is_guess : guess (g.estimate place) ≡ s.0 = ap guess s.1 in
               let zero = same_key (g.estimate t) e 0 ee (ap g.estimate (sym h) ∙ law.nearest) in
               omega (arith, cost_here g.finish h))
               (λ h. omega (arith, off g.finish h, f.finish))
@@ -261,9 +261,9 @@ module _ (g : Graph) (law : Lawful g) (costs : List ℕ) (q : Model) (place n : 
               (λ h.
               ⊎_elim
               (λ last.
-              let next-at : nth (g.edges place) n ≡ Some (u, c) = ap (λ (y : ℕ). nth (g.edges place) y) (sym last) ∙ ap (λ (y : ℕ). nth (g.edges y) i) (sym h) ∙ next in
-              let same_place = (same_edge (nth (g.edges place) n) t d u c edge next-at).0 in
-              let same-cost = (same_edge (nth (g.edges place) n) t d u c edge next-at).1 in
+              let next_at : nth (g.edges place) n ≡ Some (u, c) = ap (λ (y : ℕ). nth (g.edges place) y) (sym last) ∙ ap (λ (y : ℕ). nth (g.edges y) i) (sym h) ∙ next in
+              let same_place = (same_edge (nth (g.edges place) n) t d u c edge next_at).0 in
+              let same_cost = (same_edge (nth (g.edges place) n) t d u c edge next_at).1 in
               let new = cost_here u (sym same_place) in
               let source : cost_at costs p ≡ cost_at costs place = ap (cost_at costs) h in
               omega arith)
@@ -302,7 +302,7 @@ module _ (g : Graph) (law : Lawful g) (costs : List ℕ) (q : Model) (place n : 
       let w = l.stays h in
       let low : (u c x : ℕ) → nth (g.edges place) n ≡ Some (u, c) → g.estimate u ≡ Some x → cost_at costs u ≤ cost_at costs place + c = λ u c x next ex.
       let same_place = (same_edge (nth (g.edges place) n) t d u c edge next).0 in
-      let same-cost = (same_edge (nth (g.edges place) n) t d u c edge next).1 in
+      let same_cost = (same_edge (nth (g.edges place) n) t d u c edge next).1 in
       let same : cost_at costs u ≡ cost_at costs t = ap (cost_at costs) (sym same_place) in
       omega arith in
       (subst (λ (y : Model). Relaxing g end y place (n + 1)) (sym w.1) (subst (λ (x : List ℕ). Relaxing g x q place (n + 1)) (sym w.0) (relaxed_more g costs q place n r low)), subst (λ (y : Model). Keeps g costs end q y) (sym w.1) (subst (λ (x : List ℕ). Keeps g costs x q q) (sym w.0) (keeps_same g costs q))))

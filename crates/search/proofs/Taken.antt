@@ -138,9 +138,9 @@ module _ (g : Graph) (law : Lawful g) (costs : List ℕ) (m q : Model) (place : 
   count_taken =
       let step = tally-set (settled costs m) (settled costs q) g.size place below (λ p apart. ap (λ (x : Option ℕ). settled_at x (cost_at costs p)) (w.others p apart)) in
       let before : one (settled costs m place) ≡ 0 = ap one fresh in
-      let now-free : settled costs q place ≡ settled_at None (cost_at costs place) = ap (λ (x : Option ℕ). settled_at x (cost_at costs place)) w.here in
-      let now-known : settled_at None (cost_at costs place) ≡ Some (cost_at costs place) = cond-true (ltb (cost_at costs place) unknown) (Some (cost_at costs place)) None (lt-ltb (cost_at costs place) unknown known) in
-      let after : one (settled costs q place) ≡ 1 = ap one (now-free ∙ now-known) in
+      let now_free : settled costs q place ≡ settled_at None (cost_at costs place) = ap (λ (x : Option ℕ). settled_at x (cost_at costs place)) w.here in
+      let now_known : settled_at None (cost_at costs place) ≡ Some (cost_at costs place) = cond-true (ltb (cost_at costs place) unknown) (Some (cost_at costs place)) None (lt-ltb (cost_at costs place) unknown known) in
+      let after : one (settled costs q place) ≡ 1 = ap one (now_free ∙ now_known) in
       omega arith
 
   pub taken_size : q.size ≡ m.size

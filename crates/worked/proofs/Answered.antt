@@ -81,13 +81,13 @@ comes_out? ws vs n (Some a) = answers? ws vs n a
 unfoldable pub holds? : Decoding → Bool
 holds? d = comes_out? d.table d.values d.word_count d.expected
 
-is_none : (o : Option ℕ) → not (is_some o) ≡ true → o ≡ None
-is_none None ok = refl
-is_none (Some c) ok = absurd (false≢true ok)
+not_some : (o : Option ℕ) → not (is_some o) ≡ true → o ≡ None
+not_some None ok = refl
+not_some (Some c) ok = absurd (false≢true ok)
 
 comes_out : (ws : List Codeword) (vs : List ℤ) (n : ℕ) (o : Option Answer) → comes_out? ws vs n o ≡ true → ComesOut ws vs n o
 unfolding comes_out?
-comes_out ws vs n None ok = none_by ws vs (length vs) n (is_none (least ws vs n (length vs)) ok)
+comes_out ws vs n None ok = none_by ws vs (length vs) n (not_some (least ws vs n (length vs)) ok)
 comes_out ws vs n (Some a) ok = answers_by ws vs n a ok
 
 pub holds_by : (d : Decoding) → holds? d ≡ true → Holds d

@@ -8,10 +8,10 @@ pub returns-then-a-b : goal.returns-then-a-b
 returns-then-a-b c =
     let a = c.args.a in
     let b = c.args.b in
-    let fits-a = below_pow a.len a.value c.requires.first.2 in
-    let fits-b = below_pow b.len b.value c.requires.second.2 in
+    let fits_a = below_pow a.len a.value c.requires.first.2 in
+    let fits_b = below_pow b.len b.value c.requires.second.2 in
     record {
-      tells = eqb_tells _ _ _ (shift_prefix a.len b.len a.value b.value c.if-a-b.true fits-a fits-b) (prefix_shift a.len b.len a.value b.value c.if-a-b.true fits-a fits-b);
+      tells = eqb_tells _ _ _ (shift_prefix a.len b.len a.value b.value c.if-a-b.true fits_a fits_b) (prefix_shift a.len b.len a.value b.value c.if-a-b.true fits_a fits_b);
     }
 
 pub returns-else-a-b : goal.returns-else-a-b
