@@ -1,8 +1,7 @@
 -- Codewords, their bits, and lists of them in which no word is the start of another.
-use Rattle.std.specs.Prelude.{◌≡◌, ℕ, zero, suc, ◌+◌, ◌*◌, ◌/◌, ◌%◌, ◌^◌, ◌≤◌, Bool, ◌⊎◌, List, [], ◌∷◌, ◌++◌, length, take, Some, ◌==◌}
+use Rattle.std.specs.Prelude.{◌≡◌, ℕ, zero, suc, ◌+◌, ◌*◌, ◌/◌, ◌%◌, ◌^◌, ◌≤◌, Bool, ◌⊎◌, List, [], ◌∷◌, ◌++◌, Some, ◌==◌}
 use Rattle.std.specs.List.{slice_get}
 use Rattle.codetable.specs.declared.word.Codeword.{Codeword}
-use Rattle.codetable.specs.declared.words.Words.{Words}
 
 -- The n bits of a value, the highest first; a one is true.
 unfoldable pub bits_of : ℕ → ℕ → List Bool
@@ -67,11 +66,3 @@ Conflict a b = Prefix (bits a) (bits b) ⊎ Prefix (bits b) (bits a)
 -- w conflicts with a word of the list
 abbrev pub Clashes : List Codeword → Codeword → Type 0
 Clashes ws w = (k : ℕ) × (a : Codeword) × (slice_get ws k ≡ Some a) × Conflict a w
-
--- the memory has its full size, and the words that it holds lie within
-abbrev pub Room : Words → Type 0
-Room m = (m.len ≤ most_words) × (length m.at ≡ most_words)
-
--- the words that a table's memory holds
-abbrev pub stored : Words → List Codeword
-stored m = take m.len m.at

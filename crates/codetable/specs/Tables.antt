@@ -1,14 +1,15 @@
 -- The words of a table, and what each call on it checks and does.
 use Rattle.std.specs.Prelude.{◌≡◌, ℕ, ◌<◌, ◌≤◌, ◌⊎◌, List, [], ◌∷◌, length}
+use Rattle.fixedvec.specs.Items.{items}
 use Rattle.refusal.specs.Refusals.{bad_length, stray_bits, full, clash, no_word}
 use Rattle.refusal.specs.Checks.{Check}
 use Rattle.codetable.specs.declared.word.Codeword.{Codeword}
 use Rattle.codetable.specs.declared.table.CodeTable.{CodeTable}
-use Rattle.codetable.specs.Codewords.{largest, most_bits, most_words, stored, Clashes}
+use Rattle.codetable.specs.Codewords.{largest, most_bits, most_words, Clashes}
 
 -- the words of a table, by their numbers from 0
 abbrev pub words : CodeTable → List Codeword
-words t = stored t.inner
+words t = items t.inner
 
 -- a word as it is entered: it has no weight yet
 abbrev pub entered : ℕ → ℕ → Codeword

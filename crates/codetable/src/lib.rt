@@ -3,8 +3,6 @@
 
 pub mod table;
 pub mod word;
-mod words;
 
-pub use table::CodeTable;
+pub use table::{CodeTable, MOST_WORDS};
 pub use word::{Codeword, MOST_BITS};
-pub use words::MOST_WORDS;

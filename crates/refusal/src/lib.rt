@@ -122,6 +122,7 @@ impl Refusal {
     }
 }
 
+// The conversions are written out: what the kit's derive of From writes promises nothing of its result.
 impl From<TableFault> for Refusal {
     ghost from_gives = { λ f r. r ≡ Table f };
 

@@ -1,7 +1,6 @@
 // The received sequence: soft values in order, each on the scale.
 #![tactic(auto)]
 
-mod raw;
 pub mod received;
 pub mod scale;
 

@@ -1,14 +1,13 @@
 // The type of a received sequence: a value of it has at most 255 values, each on the scale.
-ghost use Rattle.softvalues.specs.Stored.{AllOnScale, Room, stored};
-
-use crate::raw::RawValues;
+use crate::scale::SoftValue;
+use fixedvec::FixedVec;
 
 mod calls;
+
+const MOST_VALUES: usize = 255;
 
 // Values are numbered from 0 as they are received.
 #[derive(Clone, Copy)]
 pub struct SoftValues {
-    inner: RawValues,
-    ghost room: { Room inner },
-    ghost scale: { AllOnScale (stored inner) },
+    inner: FixedVec<SoftValue, MOST_VALUES>,
 }

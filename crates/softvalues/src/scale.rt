@@ -23,6 +23,7 @@ pub struct SoftValue {
 
 impl SoftValue {
     // The number as a soft value, if it is on the scale. At the top the type ends where the scale does.
+    // A constructor, as of other types of this crate: `RawValue` is a name of i8, and a conversion from any i8 would tell less.
     pub fn new(value: RawValue) -> Result<SoftValue, TakeFault>
         ensures answer { Judged (scale_checks value) Take result (λ s. s.value ≡ value) (λ _. Unit {0}) }
     {
@@ -46,7 +47,7 @@ impl SoftValue {
         value < 0
     }
 
-    // The value without its sign.
+    // The value without its sign. By rule the sign is tested and the number negated.
     pub fn magnitude(&self) -> Magnitude
         ensures unsigned { result ≡ magnitude self.now.value }
     {

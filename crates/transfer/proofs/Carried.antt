@@ -1,23 +1,17 @@
 -- What a transfer carries after each call, for every list of words sent before.
-use Rattle.std.proofs.Common.{◌≡◌, ℕ, ◌+◌, ◌*◌, ◌≤◌, Bool, List, [], ◌∷◌, ◌++◌, map, length, Some, Option, unwrap_or, sym, ap, ◌∙◌, zero-add, arith, length-append}
+use Rattle.std.proofs.Common.{◌≡◌, ℕ, ◌+◌, ◌*◌, ◌≤◌, Bool, List, [], ◌∷◌, ◌++◌, map, length, Some, sym, ap, ◌∙◌, zero-add, arith, length-append}
 use Rattle.std.specs.List.{slice_get}
-use Rattle.std.specs.Option.{option_map}
 use Rattle.std.proofs.lemmas.List.{flat_map_more, length_push, length-map, map-append}
 use Rattle.codetable.specs.declared.word.Codeword.{Codeword}
 use Rattle.codetable.specs.Codewords.{bits}
-use Rattle.codetable.proofs.Bits.{length-bits}
+use Rattle.codetable.specs.Sequences.{bits_at}
+use Rattle.codetable.proofs.Sequences.{bits_there, length_there}
 use Rattle.transfer.specs.declared.state.OpenTransfer.{OpenTransfer}
 use Rattle.transfer.specs.declared.state.ClosedTransfer.{ClosedTransfer}
 use Rattle.transfer.specs.Format.{bit_word, load_word, end_word}
-use Rattle.transfer.specs.Transfers.{closing, sent_bits, written, bits_at}
+use Rattle.transfer.specs.Transfers.{closing, sent_bits, written}
 use Rattle.transfer.specs.Calls.{Stepped, Finished, Carries, Delivers}
 use Rattle.transfer.proofs.Written.{length-written, written_more}
-
-pub bits_there : (ws : List Codeword) (k : ℕ) (w : Codeword) → slice_get ws k ≡ Some w → bits_at ws k ≡ bits w
-bits_there ws k w e = ap (λ (o : Option Codeword). unwrap_or (option_map bits o) []) e
-
-pub length_there : (ws : List Codeword) (k : ℕ) (w : Codeword) → slice_get ws k ≡ Some w → length (bits_at ws k) ≡ w.len
-length_there ws k w e = ap length (bits_there ws k w e) ∙ length-bits w.len w.value
 
 sent_more : (sent : List Codeword) (w : Codeword) → sent_bits (sent ++ w ∷ []) ≡ sent_bits sent ++ bits w
 sent_more sent w = sym (flat_map_more bits [] sent w)

@@ -1,6 +1,5 @@
 -- What a buffer holds after file words are written into it.
-use Rattle.std.proofs.Common.{◌≡◌, ℕ, ◌+◌, ◌-◌, ◌*◌, ◌≤◌, List, [], ◌∷◌, ◌++◌, length, take, drop, sym, refl, ap, ◌∙◌, append_assoc, arith, length-append, length-drop, take-append-drop, length-take}
-use borrow.Rule.Slice.PartMut.{put_mid}
+use Rattle.std.proofs.Common.{◌≡◌, ℕ, ◌+◌, ◌*◌, ◌≤◌, List, [], ◌∷◌, ◌++◌, length, take, drop, sym, refl, ap, ◌∙◌, append_assoc, arith, length-append, length-drop, take-append-drop, length-take}
 use Rattle.std.proofs.lemmas.List.{length-take-le, take_at, drop_at, drop-drop}
 use Rattle.transfer.specs.Format.{word_bytes, bytes_of}
 use Rattle.transfer.specs.Transfers.{written}
@@ -55,9 +54,3 @@ module _ (b : List ℕ) (at : ℕ) (us : List ℕ) (fits : 4 * (at + length us) 
       ∙ ap (λ (l : List ℕ). l ++ drop (4 * (n + length vs)) (written b at us)) (sym (bytes_append us vs))
       ∙ ap (λ (l : List ℕ). bytes_of (us ++ vs) ++ l) past
       )
-
--- a write of four bytes
-pub written_one : (b : List ℕ) (at w : ℕ) (ys : List ℕ) → ys ≡ word_bytes w → put_mid (4 * at) (4 * at + 4 - 4 * at) b ys ≡ written b at (w ∷ [])
-written_one b at w ys e =
-    ap (λ (l : List ℕ). take (4 * at) b ++ (l ++ drop (4 * at + 4 - 4 * at) (drop (4 * at) b))) e
-    ∙ ap (λ (l : List ℕ). take (4 * at) b ++ (word_bytes w ++ l)) (drop-drop (4 * at + 4 - 4 * at) (4 * at) b ∙ ap (λ (i : ℕ). drop i b) (omega arith))

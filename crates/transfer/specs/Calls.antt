@@ -3,10 +3,11 @@ use Rattle.std.specs.Prelude.{◌≡◌, ℕ, ◌+◌, ◌*◌, ◌<◌, ◌≤�
 use Rattle.refusal.specs.Refusals.{full, no_word, short}
 use Rattle.refusal.specs.Checks.{Check}
 use Rattle.codetable.specs.declared.word.Codeword.{Codeword}
+use Rattle.codetable.specs.Sequences.{bits_at}
 use Rattle.transfer.specs.declared.state.OpenTransfer.{OpenTransfer}
 use Rattle.transfer.specs.declared.state.ClosedTransfer.{ClosedTransfer}
 use Rattle.transfer.specs.Format.{bit_word, load_word, end_word}
-use Rattle.transfer.specs.Transfers.{most_steps, most_sent_bits, closing, sent_bits, transfer_words, written, bits_at}
+use Rattle.transfer.specs.Transfers.{most_steps, most_sent_bits, closing, sent_bits, transfer_words, written}
 
 -- What is checked, in this order, before word k of a table is sent behind so many steps and bits,
 -- into a buffer of `size` bytes: the words that close the transfer must still fit.

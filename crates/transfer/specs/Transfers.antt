@@ -1,7 +1,6 @@
 -- What a transfer carries.
 use Rattle.std.specs.Prelude.{ℕ, ◌+◌, ◌*◌, Bool, List, [], ◌∷◌, ◌++◌, map, length, take, drop}
-use Rattle.std.specs.List.{slice_get, flat_map}
-use Rattle.std.specs.Option.{option_map, unwrap_or}
+use Rattle.std.specs.List.{flat_map}
 use Rattle.codetable.specs.declared.word.Codeword.{Codeword}
 use Rattle.codetable.specs.Codewords.{bits}
 use Rattle.transfer.specs.Format.{bit_word, load_word, end_word, bytes_of}
@@ -27,7 +26,3 @@ transfer_words ws = map bit_word (sent_bits ws) ++ load_word (length ws) ∷ end
 -- a buffer with file words written at a place, counted in words
 abbrev pub written : List ℕ → ℕ → List ℕ → List ℕ
 written buffer at ws = take (4 * at) buffer ++ (bytes_of ws ++ drop (4 * (at + length ws)) buffer)
-
--- the bits of word k of a list, none if there is no such word
-abbrev pub bits_at : List Codeword → ℕ → List Bool
-bits_at ws k = unwrap_or (option_map bits (slice_get ws k)) []

@@ -22,6 +22,7 @@ fn put_word(buffer: &mut [u8], at: usize, word: u32)
 }
 
 // Writes a BIT for each bit of a codeword.
+// An index, since it is the bit's place in its word and, from `at` on, the place of its BIT in the buffer.
 pub(crate) fn put_bits(buffer: &mut [u8], at: usize, word: Codeword)
     requires room { 4 * (at + word.len) ≤ length buffer.old }
     ensures written { buffer.new ≡ written buffer.old at (map bit_word (bits word)) }

@@ -1,14 +1,14 @@
 // The calls on a table.
-ghost use Rattle.std.specs.Prelude.{◌≡◌, ◌-◌, [], ◌∷◌, ◌++◌, length, take};
+ghost use Rattle.std.specs.Prelude.{◌≡◌, ◌-◌, [], ◌∷◌, ◌++◌, length, take, MatchBool};
 ghost use Rattle.std.specs.List.{slice_get};
 ghost use Rattle.refusal.specs.Checks.{Judged};
 ghost use Rattle.refusal.specs.declared.Refusal.TheVariants.{Table};
-ghost use Rattle.codetable.specs.Codewords.{reweighed};
+ghost use Rattle.codetable.specs.Codewords.{reweighed, Clashes};
 ghost use Rattle.codetable.specs.Tables.{words, entered, word_checks, weigh_checks, drop_checks};
 
-use super::CodeTable;
-use crate::word::{Codeword, MOST_BITS, largest_value};
-use crate::words::{MOST_WORDS, Words};
+use super::{CodeTable, MOST_WORDS};
+use crate::word::{Codeword, MOST_BITS, conflicts, largest_value};
+use fixedvec::FixedVec;
 use refusal::TableFault;
 
 impl CodeTable {
@@ -22,10 +22,7 @@ impl CodeTable {
             weight: 0,
         };
         CodeTable {
-            inner: Words {
-                at: [blank; MOST_WORDS],
-                len: 0,
-            },
+            inner: FixedVec::new(blank),
         }
     }
 
@@ -39,7 +36,7 @@ impl CodeTable {
         if value > largest_value(len) {
             return Err(TableFault::StrayBits);
         }
-        if self.inner.len >= MOST_WORDS {
+        if self.len() >= MOST_WORDS {
             return Err(TableFault::Full);
         }
         let word = Codeword {
@@ -47,21 +44,18 @@ impl CodeTable {
             value,
             weight: 0,
         };
-        if self.inner.clashes(word) {
+        if self.clashes(word) {
             return Err(TableFault::Clash);
         }
-        self.inner.push(word);
-        Ok(())
+        self.inner.push(word).map_err(|_| TableFault::Full)
     }
 
     // Sets the weight of word k.
     pub fn set_weight(&mut self, k: usize, weight: u16) -> Result<(), TableFault>
         ensures answer { Judged (weigh_checks (words self.old) k) Table result (λ _. words self.new ≡ reweighed (words self.old) k weight) (λ _. self.new ≡ self.old) }
     {
-        if k >= self.inner.len {
-            return Err(TableFault::NoWord);
-        }
-        self.inner.set_weight(k, weight);
+        let word = self.word(k).ok_or(TableFault::NoWord)?;
+        self.inner.replace(k, Codeword { weight, ..word });
         Ok(())
     }
 
@@ -69,11 +63,8 @@ impl CodeTable {
     pub fn pop(&mut self) -> Result<(), TableFault>
         ensures answer { Judged (drop_checks (words self.old)) Table result (λ _. words self.new ≡ take (length (words self.old) - 1) (words self.old)) (λ _. self.new ≡ self.old) }
     {
-        let len = self.inner.len;
-        if len == 0 {
-            return Err(TableFault::NoWord);
-        }
-        self.inner.keep(len - 1);
+        let last = self.len().checked_sub(1).ok_or(TableFault::NoWord)?;
+        self.inner.truncate(last);
         Ok(())
     }
 
@@ -81,18 +72,28 @@ impl CodeTable {
     pub fn len(&self) -> usize
         ensures count { result ≡ length (words self.now) }
     {
-        self.inner.len
+        self.inner.len()
     }
 
     // Word k with its length, value and weight, or none.
     pub fn word(&self, k: usize) -> Option<Codeword>
         ensures found { result ≡ slice_get (words self.now) k }
     {
-        if k < self.inner.len {
-            Some(self.inner.at[k])
-        } else {
-            None
-        }
+        self.inner.get(k)
+    }
+
+    // All words, by their numbers.
+    pub fn as_slice(&self) -> &[Codeword]
+        ensures words { result.now ≡ words self.now }
+    {
+        self.inner.as_slice()
+    }
+
+    // Whether a word conflicts with one of the table.
+    fn clashes(&self, word: Codeword) -> bool
+        ensures tells { MatchBool result (Clashes (words self.now) word) (Clashes (words self.now) word → ⊥) }
+    {
+        self.as_slice().iter().any(|&other| conflicts(other, word))
     }
 }
 

@@ -7,8 +7,8 @@ ghost use Rattle.refusal.specs.declared.Refusal.TheVariants.{Take};
 ghost use Rattle.softvalues.specs.Received.{values, value_checks};
 
 use super::SoftValues;
-use crate::raw::{MOST_VALUES, RawValues};
 use crate::scale::{RawValue, SoftValue};
+use fixedvec::FixedVec;
 use refusal::TakeFault;
 
 impl SoftValues {
@@ -17,10 +17,7 @@ impl SoftValues {
         ensures empty { values result ≡ [] }
     {
         SoftValues {
-            inner: RawValues {
-                at: [0; MOST_VALUES],
-                len: 0,
-            },
+            inner: FixedVec::new(SoftValue { value: 0 }),
         }
     }
 
@@ -29,38 +26,28 @@ impl SoftValues {
         ensures answer { Judged (value_checks (values self.old) value) Take result (λ _. values self.new ≡ values self.old ++ value ∷ []) (λ _. self.new ≡ self.old) }
     {
         let soft = SoftValue::new(value)?;
-        if self.inner.len >= MOST_VALUES {
-            return Err(TakeFault::Full);
-        }
-        self.inner.push(soft.value);
-        Ok(())
+        self.inner.push(soft).map_err(|_| TakeFault::Full)
     }
 
     // Removes every value.
     pub fn clear(&mut self)
         ensures empty { values self.new ≡ [] }
     {
-        *self = SoftValues::new();
+        self.inner.truncate(0);
     }
 
     // How many values there are.
     pub fn len(&self) -> usize
         ensures count { result ≡ length (values self.now) }
     {
-        self.inner.len
+        self.inner.len()
     }
 
     // Value i, or none from the length on.
     pub fn get(&self, i: usize) -> Option<SoftValue>
         ensures found { option_map (λ s. s.value) result ≡ slice_get (values self.now) i }
     {
-        if i < self.inner.len {
-            Some(SoftValue {
-                value: self.inner.at[i],
-            })
-        } else {
-            None
-        }
+        self.inner.get(i)
     }
 }
 

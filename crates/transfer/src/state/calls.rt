@@ -77,26 +77,20 @@ mod tests {
 
     fn table(rt: &impl Abort, words: &[(usize, u32)]) -> CodeTable {
         let mut table = CodeTable::new();
-        for word in words {
-            assert!(rt; table.push(word.0, word.1).is_ok());
+        for &(len, value) in words {
+            assert!(rt; table.push(len, value).is_ok());
         }
         table
     }
 
     fn accepted<T>(answer: Result<T, (OpenTransfer, TransferFault)>) -> Result<T, Fail> {
-        match answer {
-            Ok(transfer) => Ok(transfer),
-            Err(_) => Err(Fail::new("refused")),
-        }
+        answer.map_err(|_| Fail::new("refused"))
     }
 
     fn refused<T: Drop>(
         answer: Result<T, (OpenTransfer, TransferFault)>,
     ) -> Result<(OpenTransfer, TransferFault), Fail> {
-        match answer {
-            Ok(_) => Err(Fail::new("accepted")),
-            Err(back) => Ok(back),
-        }
+        answer.err().ok_or_else(|| Fail::new("accepted"))
     }
 
     // Sends one word so many times, and says why the other is refused then.

@@ -4,11 +4,8 @@ use Rattle.codetable.specs.Codewords.{bits}
 use Rattle.codetable.proofs.Bits.{length-bits}
 use Rattle.transfer.specs.Format.{bit_word}
 use Rattle.transfer.specs.Transfers.{written}
-use Rattle.transfer.proofs.Written.{written_none, written_more}
+use Rattle.transfer.proofs.Written.{written_more}
 use Rattle.transfer.proofs.format.put_bits.Goals as goal
-
-pub loop-i-init : goal.loop-i-init
-loop-i-init c = sym (written_none c.args.buffer.now c.args.at)
 
 pub loop-i-preserved : goal.loop-i-preserved
 loop-i-preserved c =

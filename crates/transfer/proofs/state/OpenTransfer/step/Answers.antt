@@ -1,52 +1,39 @@
 use Rattle.std.proofs.Common.{◌≡◌, ℕ, ◌+◌, Bool, List, map, length, sym, refl, ap, ◌∙◌, inl, inr, ⊎_elim, arith}
+use Rattle.std.proofs.lemmas.Option.{slice_get_within}
+use Rattle.codetable.specs.Sequences.{bits_at}
 use Rattle.codetable.specs.Tables.{words}
-use Rattle.codetable.proofs.Stored.{nth_within, nth_missing}
+use Rattle.codetable.proofs.Sequences.{bits_there, length_there}
 use Rattle.transfer.specs.Format.{bit_word}
-use Rattle.transfer.specs.Transfers.{written, bits_at}
+use Rattle.transfer.specs.Transfers.{written}
 use Rattle.transfer.specs.Calls.{Stepped}
-use Rattle.transfer.proofs.Carried.{bits_there, length_there, stepped_carries}
+use Rattle.transfer.proofs.Carried.{stepped_carries}
 use Rattle.transfer.proofs.state.OpenTransfer.step.Goals as goal
 
-pub returns-in_default : goal.returns-in_default
-returns-in_default c =
-    record {
-      answer = (inl (nth_missing (words c.args.table.now) c.args.k (sym c.word.ensures.found ∙ c.in_default.is), refl), (refl, refl));
-      carries = λ _ _ _ _ _. tt;
-    }
-
-pub returns-then-self-ge-MOST_STEPS : goal.returns-then-self-ge-MOST_STEPS
-returns-then-self-ge-MOST_STEPS c =
+pub returns-then-self-ge-MOST_STEPS-clause-answer : goal.returns-then-self-ge-MOST_STEPS-clause-answer
+returns-then-self-ge-MOST_STEPS-clause-answer c =
     let ws = words c.args.table.now in
     let there = sym c.in-Some.ensures.found in
-    let within = nth_within ws c.args.k c.in-Some.word there in
-    let long = length_there ws c.args.k c.in-Some.word there in
-    record {
-      answer = (
-        inr (
-          λ h. omega arith,
-          inl (⊎_elim (λ h. inl h) (λ h. inr (omega (arith, h.1, c.from.ensures))) c.then-self-ge-MOST_STEPS.either, refl),
-        ),
-        (refl, refl),
-      );
-      carries = λ _ _ _ _ _. tt;
-    }
+    let within = slice_get_within ws c.args.k c.in-Some.word there in
+    let long = length_there ws c.args.k c.in-Some.word there in (
+      inr (
+        λ h. omega arith,
+        inl (⊎_elim (λ h. inl h) (λ h. inr (omega (arith, h.1, c.from.ensures))) c.then-self-ge-MOST_STEPS.either, refl),
+      ),
+      (refl, refl),
+    )
 
-pub returns-then-buffer-bits : goal.returns-then-buffer-bits
-returns-then-buffer-bits c =
+pub returns-then-buffer-bits-clause-answer : goal.returns-then-buffer-bits-clause-answer
+returns-then-buffer-bits-clause-answer c =
     let ws = words c.args.table.now in
     let there = sym c.in-Some.ensures.found in
-    let within = nth_within ws c.args.k c.in-Some.word there in
-    let long = length_there ws c.args.k c.in-Some.word there in
-    record {
-      answer = (
-        inr (
-          λ h. omega arith,
-          inr (⊎_elim (λ h. omega arith) (λ h. omega arith), inl (omega arith, refl)),
-        ),
-        (refl, refl),
-      );
-      carries = λ _ _ _ _ _. tt;
-    }
+    let within = slice_get_within ws c.args.k c.in-Some.word there in
+    let long = length_there ws c.args.k c.in-Some.word there in (
+      inr (
+        λ h. omega arith,
+        inr (⊎_elim (λ h. omega arith) (λ h. omega arith), inl (omega arith, refl)),
+      ),
+      (refl, refl),
+    )
 
 pub returns : goal.returns
 returns c =
@@ -54,7 +41,7 @@ returns c =
     let k = c.args.k in
     let w = c.in-Some.word in
     let there = sym c.in-Some.ensures.found in
-    let within = nth_within ws k w there in
+    let within = slice_get_within ws k w there in
     let long = length_there ws k w there in
     let done : Stepped ws k c.args.self _ c.args.buffer.now c.put_bits.new.buffer =
     record {
