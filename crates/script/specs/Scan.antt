@@ -1,24 +1,18 @@
--- How far a scan of bytes goes.
-use Rattle.std.specs.Prelude.{◌≡◌, ℕ, ◌<◌, ◌≤◌, Bool, true, false, not, List, [], ◌∷◌, length, Ok, Err, Result, slice_index}
-use Rattle.std.specs.List.{between, AllByRecursion}
+-- What a scan tests each byte for, and what is left of a line that is read field by field.
+use Rattle.std.specs.Prelude.{◌≡◌, ℕ, Bool, List, [], ◌∷◌, Ok, Err, Result}
+use denote.Ref.{Bor}
+use Rattle.std.specs.Fn.{CalledAt, Mut}
+use Rattle.script.specs.declared.Fields.{Fields}
 use Rattle.script.specs.declared.LineFault.{LineFault}
 use Rattle.script.specs.declared.LineFault.TheVariants.{Extra}
-use Rattle.script.specs.declared.Stop.{Stop}
-use Rattle.script.specs.declared.Stop.TheVariants.{Newline, Blank, Solid}
-use Rattle.script.specs.Script.{newline, blank}
+use Rattle.script.specs.Script.{fields}
 
-abbrev pub stops : Stop → ℕ → Bool
-stops Newline b = newline b
-stops Blank b = blank b
-stops Solid b = not (blank b)
+-- each call of a closure f leaves f as it is, and tells whether the byte passes
+abbrev pub Tests : {F : Type 0} → Mut F (Bor ℕ × Unit {0}) Bool → F → (ℕ → Bool) → Type 0
+Tests {F} g f passes = (byte : ℕ) (answer : Bool) (after : F) → CalledAt g f byte answer after → (after ≡ f) × (answer ≡ passes byte)
 
--- `to` is the first place from `from` on whose byte passes a test, or the end where there is none
-pub record FirstAt (test : ℕ → Bool) (bs : List ℕ) (from to : ℕ) : Type 0 where
-  pub ahead : from ≤ to
-  pub within : from ≤ length bs → to ≤ length bs
-  pub past : length bs ≤ from → to ≡ from
-  pub passed : AllByRecursion (λ b. test b ≡ false) (between from to bs)
-  pub found : to < length bs → test (slice_index bs to) ≡ true
+abbrev pub fields_left : Fields → List (List ℕ)
+fields_left it = fields it.line.now
 
 -- no field is left
 abbrev pub at_end : List (List ℕ) → Result Unit LineFault

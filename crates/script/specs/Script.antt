@@ -1,27 +1,19 @@
 -- What a text says: its lines, the fields of a line, and what the fields enter.
-use Rattle.std.specs.Prelude.{ℕ, ◌+◌, ◌-◌, ◌*◌, ◌%◌, ◌^◌, Bool, true, false, cond, ◌&&◌, ◌||◌, List, [], ◌∷◌, length, Some, None, Ok, Err, codes, filter, Option, Result, ◌==◌, nat_le}
+use Rattle.std.specs.Prelude.{ℕ, ◌%◌, ◌^◌, Bool, true, false, cond, ◌||◌, List, [], ◌∷◌, length, Some, None, Ok, Err, codes, filter, Option, Result, ◌==◌, nat_le}
+use Rattle.std.specs.List.{slice_split, list_all}
 use Rattle.std.specs.Char.{is_ascii_digit}
 use Rattle.std.specs.Str.{bytes_eq}
+use Rattle.std.specs.Str.Parse.{digits_value}
 use Rattle.script.specs.declared.Entry.{Entry}
 use Rattle.script.specs.declared.Entry.TheVariants.{Word, Step}
 use Rattle.script.specs.declared.LineFault.{LineFault}
 use Rattle.script.specs.declared.LineFault.TheVariants.{Unknown, Missing, Extra, NotBits, NotNumber, TooLarge}
 
--- b in front of the first piece
-abbrev pub onto : ℕ → List (List ℕ) → List (List ℕ)
-onto b [] = (b ∷ []) ∷ []
-onto b (p ∷ ps) = (b ∷ p) ∷ ps
-
--- what stands between the bytes that pass a test
-abbrev pub pieces : (ℕ → Bool) → List ℕ → List (List ℕ)
-pieces test [] = [] ∷ []
-pieces test (b ∷ bs) = cond (test b) ([] ∷ pieces test bs) (onto b (pieces test bs))
-
 abbrev pub newline : ℕ → Bool
 newline b = b == 10
 
 abbrev pub lines : List ℕ → List (List ℕ)
-lines bs = pieces newline bs
+lines bs = slice_split newline bs
 
 -- a space, a tab or a carriage return
 abbrev pub blank : ℕ → Bool
@@ -31,36 +23,21 @@ abbrev pub filled : List ℕ → Bool
 filled [] = false
 filled (b ∷ bs) = true
 
--- the pieces between blanks that are not empty
+-- the parts between blanks that are not empty
 abbrev pub fields : List ℕ → List (List ℕ)
-fields bs = filter filled (pieces blank bs)
-
-abbrev pub all : (ℕ → Bool) → List ℕ → Bool
-all test [] = true
-all test (b ∷ bs) = test b && all test bs
+fields bs = filter filled (slice_split blank bs)
 
 abbrev pub bit : ℕ → Bool
 bit b = b == 48 || b == 49
 
--- the number that digits write in a base, the highest digit first
-abbrev pub in_base : ℕ → List ℕ → ℕ
-in_base base [] = 0
-in_base base (d ∷ ds) = (d - 48) * base ^ length ds + in_base base ds
-
-abbrev pub binary : List ℕ → ℕ
-binary ds = in_base 2 ds
-
-abbrev pub decimal : List ℕ → ℕ
-decimal ds = in_base 10 ds
-
 -- the value of bits, modulo 2 ^ 32
 abbrev pub bits : List ℕ → Result ℕ LineFault
-bits ds = cond (all bit ds) (Ok (binary ds % 2 ^ 32)) (Err NotBits)
+bits ds = cond (list_all bit ds) (Ok (digits_value 2 ds % 2 ^ 32)) (Err NotBits)
 
 -- a decimal number of at most `most`
 abbrev pub number : ℕ → List ℕ → Result ℕ LineFault
 number most ds =
-    cond (all is_ascii_digit ds) (cond (nat_le (decimal ds) most) (Ok (decimal ds)) (Err TooLarge)) (Err NotNumber)
+    cond (list_all is_ascii_digit ds) (cond (nat_le (digits_value 10 ds) most) (Ok (digits_value 10 ds)) (Err TooLarge)) (Err NotNumber)
 
 -- goes on with what was read, or stays at the first fault
 abbrev pub then : {X Y : Type 0} → Result X LineFault → (X → Result Y LineFault) → Result Y LineFault

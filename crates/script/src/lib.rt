@@ -2,10 +2,11 @@
 // names a codeword to send, `step NUMBER`, or is blank or a comment, which begins with `#`.
 #![tactic(auto)]
 
-ghost use Rattle.std.specs.Prelude.{◌≡◌, ◌+◌, ◌<◌, ◌≤◌, [], ◌∷◌, length, drop, Some, MatchOption, slice_index_or};
-ghost use Rattle.std.specs.List.{between};
-ghost use Rattle.script.specs.Scan.{stops, FirstAt, at_end};
-ghost use Rattle.script.specs.Script.{lines, blank, fields, bit, bits, number, word_entry, step_entry, entry_of, comment, reading, reason};
+ghost use Rattle.std.specs.Prelude.{◌≡◌, ℕ, ◌+◌, ◌<◌, ◌≤◌, Bool, [], ◌∷◌, length, drop, Some, slice_index_or};
+ghost use Rattle.std.specs.List.{between, position_or_len};
+ghost use Rattle.std.specs.Iterator.{YieldsFirstRef, item_count};
+ghost use Rattle.script.specs.Scan.{Tests, fields_left, at_end};
+ghost use Rattle.script.specs.Script.{newline, lines, blank, fields, bit, bits, number, word_entry, step_entry, entry_of, comment, reading, reason};
 
 use std::fmt;
 
@@ -49,41 +50,26 @@ impl fmt::Display for LineFault {
     }
 }
 
-// What a scan stops at.
-#[derive(Clone, Copy)]
-enum Stop {
-    Newline,
-    Blank,
-    Solid,
+// Whether a byte ends a line.
+pub fn is_newline(byte: &u8) -> bool
+    ensures value { result ≡ newline byte.now }
+{
+    *byte == b'\n'
 }
 
-impl Stop {
-    fn at(self, byte: u8) -> bool
-        ensures value { result ≡ stops self byte }
-    {
-        match self {
-            Stop::Newline => byte == b'\n',
-            Stop::Blank => is_blank(byte),
-            Stop::Solid => !is_blank(byte),
-        }
-    }
-}
-
-fn is_blank(byte: u8) -> bool
-    ensures value { result ≡ blank byte }
+fn is_blank(byte: &u8) -> bool
+    ensures value { result ≡ blank byte.now }
 {
     matches!(byte, b' ' | b'\t' | b'\r')
 }
 
-// The first place from `from` on where the scan stops, or the end of the bytes.
-fn seek(bytes: &[u8], from: usize, stop: Stop) -> usize
-    ensures first { FirstAt (stops stop) bytes.now from result }
+// How many bytes stand before the first that passes a test, or in all where none does.
+fn len_before<F: FnMut(&u8) -> bool>(bytes: &[u8], test: F) -> usize
+    requires callable { F.IsAlwaysCallable test }
+    ensures within { result ≤ length bytes.now }
+    ensures first { (passes : ℕ → Bool) → Tests F.FnMut test passes → result ≡ position_or_len passes bytes.now }
 {
-    let mut at = from;
-    while at < bytes.len() && !stop.at(bytes[at]) {
-        at += 1;
-    }
-    at
+    bytes.iter().position(test).unwrap_or(bytes.len())
 }
 
 // Where the line that begins at `from` ends: at the next newline, or at the text's end.
@@ -96,26 +82,41 @@ pub fn line_end(text: &[u8], from: usize) -> usize
     ensures more { result < length text.now → lines (drop from text.now) ≡ between from result text.now ∷ lines (drop (result + 1) text.now) }
     ensures last { length text.now ≤ result → lines (drop from text.now) ≡ between from result text.now ∷ [] }
 {
-    seek(text, from, Stop::Newline)
+    let Some(rest) = text.get(from..) else {
+        return from;
+    };
+    from + len_before(rest, is_newline)
 }
 
-// The first field of a line and what follows it, unless the line is blank.
-fn split_field(line: &[u8]) -> Option<(&[u8], &[u8])>
-    ensures splits { MatchOption result (fields line.now ≡ []) (λ p. fields line.now ≡ p.0.now ∷ fields p.1.now) }
-{
-    let start = seek(line, 0, Stop::Solid);
-    if start == line.len() {
-        return None;
+// The fields of a line, the first of them first. The line is what is left of it.
+// A type of its own, since what is left is passed on: a chain of `split` and `filter` has no name to pass it by.
+#[derive(Clone, Copy)]
+struct Fields<'a> {
+    line: &'a [u8],
+}
+
+impl<'a> Iterator for Fields<'a> {
+    type Item = &'a [u8];
+
+    ghost next_gives = { YieldsFirstRef fields_left };
+
+    ghost remaining = { item_count fields_left };
+
+    fn next(&mut self) -> Option<&'a [u8]> {
+        let blanks = len_before(self.line, |byte| !is_blank(byte));
+        let (_, solid) = self.line.split_at(blanks);
+        let len = len_before(solid, is_blank);
+        let (field, rest) = solid.split_at(len);
+        self.line = rest;
+        (len > 0).then_some(field)
     }
-    let end = seek(line, start, Stop::Blank);
-    Some((&line[start..end], &line[end..]))
 }
 
-// Refuses a further field.
-fn expect_end(rest: &[u8]) -> Result<(), LineFault>
-    ensures ends { result ≡ at_end (fields rest.now) }
+// Refuses a further field. A match, as nothing is passed on: some is a refusal, and none is not.
+fn expect_end(mut fields: Fields) -> Result<(), LineFault>
+    ensures ends { result ≡ at_end (fields_left fields.entry) }
 {
-    match split_field(rest) {
+    match fields.next() {
         None => Ok(()),
         Some(_) => Err(LineFault::Extra),
     }
@@ -161,54 +162,48 @@ fn parse_number(field: &[u8], limit: u32) -> Result<u32, LineFault>
     }
 }
 
-// Reads the fields after `word`.
-fn parse_word(rest: &[u8]) -> Result<Entry, LineFault>
-    ensures reads { result ≡ word_entry (fields rest.now) }
+// Reads a weight.
+fn parse_weight(field: &[u8]) -> Result<u16, LineFault>
+    ensures reads { result ≡ number 65535 field.now }
 {
-    let Some((bits, rest)) = split_field(rest) else {
-        return Err(LineFault::Missing);
-    };
-    let len = bits.len();
-    let Some((weight, rest)) = split_field(rest) else {
-        let value = parse_bits(bits)?;
-        return Ok(Entry::Word {
-            len,
-            value,
-            weight: None,
-        });
-    };
-    expect_end(rest)?;
+    let weight = parse_number(field, u32::from(u16::MAX))?;
+    Ok(weight as u16)
+}
+
+// Reads the fields after `word`.
+fn parse_word(mut fields: Fields) -> Result<Entry, LineFault>
+    ensures reads { result ≡ word_entry (fields_left fields.entry) }
+{
+    let bits = fields.next().ok_or(LineFault::Missing)?;
+    let weight = fields.next();
+    expect_end(fields)?;
     let value = parse_bits(bits)?;
-    let weight = parse_number(weight, u32::from(u16::MAX))? as u16;
+    let weight = weight.map(parse_weight).transpose()?;
     Ok(Entry::Word {
-        len,
+        len: bits.len(),
         value,
-        weight: Some(weight),
+        weight,
     })
 }
 
 // Reads the field after `step`.
-fn parse_step(rest: &[u8]) -> Result<Entry, LineFault>
-    ensures reads { result ≡ step_entry (fields rest.now) }
+fn parse_step(mut fields: Fields) -> Result<Entry, LineFault>
+    ensures reads { result ≡ step_entry (fields_left fields.entry) }
 {
-    let Some((number, rest)) = split_field(rest) else {
-        return Err(LineFault::Missing);
-    };
-    expect_end(rest)?;
+    let number = fields.next().ok_or(LineFault::Missing)?;
+    expect_end(fields)?;
     let word = parse_number(number, u32::MAX)?;
     Ok(Entry::Step { word })
 }
 
 // Reads the first field of an entry and those after it.
-fn parse_entry(keyword: &[u8], rest: &[u8]) -> Result<Entry, LineFault>
-    ensures reads { result ≡ entry_of keyword.now (fields rest.now) }
+fn parse_entry(keyword: &[u8], rest: Fields) -> Result<Entry, LineFault>
+    ensures reads { result ≡ entry_of keyword.now (fields_left rest.entry) }
 {
-    if keyword == b"word".as_slice() {
-        parse_word(rest)
-    } else if keyword == b"step".as_slice() {
-        parse_step(rest)
-    } else {
-        Err(LineFault::Unknown)
+    match keyword {
+        b"word" => parse_word(rest),
+        b"step" => parse_step(rest),
+        _ => Err(LineFault::Unknown),
     }
 }
 
@@ -222,14 +217,14 @@ fn is_comment(field: &[u8]) -> bool
 pub fn parse_line(line: &[u8]) -> Result<Option<Entry>, LineFault>
     ensures reads { result ≡ reading (fields line.now) }
 {
-    let Some((keyword, rest)) = split_field(line) else {
+    let mut fields = Fields { line };
+    let Some(keyword) = fields.next() else {
         return Ok(None);
     };
     if is_comment(keyword) {
         return Ok(None);
     }
-    let entry = parse_entry(keyword, rest)?;
-    Ok(Some(entry))
+    parse_entry(keyword, fields).map(Some)
 }
 
 #[cfg(test)]

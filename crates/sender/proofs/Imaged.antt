@@ -1,23 +1,12 @@
 -- The bytes of a table's words, one word after the other.
-use Rattle.std.proofs.Common.{◌≡◌, ℕ, ◌+◌, ◌<◌, Bool, cond, List, [], ◌∷◌, ◌++◌, length, take, Some, sym, ap, ◌∙◌, append_assoc, append-nil, add-zero, zero-add, arith}
+use Rattle.std.proofs.Common.{◌≡◌, ℕ, ◌+◌, ◌<◌, List, [], ◌∷◌, ◌++◌, length, take, Some, sym, ap, ◌∙◌, append_assoc, append-nil, add-zero, zero-add, arith}
 use Rattle.std.specs.List.{slice_get}
 use Rattle.std.proofs.lemmas.List.{length-take-le}
-use Rattle.std.proofs.lemmas.Bool.{ne_eqb}
 use Rattle.codetable.specs.declared.word.Codeword.{Codeword}
 use Rattle.codetable.proofs.Stored.{nth_within, take_nth}
-use Rattle.transfer.specs.Format.{word_word_of, weigh_word_of, bytes_of}
+use Rattle.transfer.specs.Format.{bytes_of}
 use Rattle.transfer.proofs.Written.{bytes_append}
 use Rattle.sender.specs.Images.{entry_words, table_words}
-
--- a word with a weight
-pub entry_heavy : (k : ℕ) (w : Codeword) (before middle after : List ℕ) (a b : ℕ) → a ≡ word_word_of w.len w.value → b ≡ weigh_word_of k w.weight → (w.weight ≡ 0 → ⊥) → middle ≡ before ++ bytes_of (a ∷ []) → after ≡ middle ++ bytes_of (b ∷ []) → after ≡ before ++ bytes_of (entry_words k w)
-entry_heavy k w before middle after a b ea eb heavy em e =
-    e
-    ∙ ap (λ (l : List ℕ). l ++ bytes_of (b ∷ [])) em
-    ∙ append_assoc before (bytes_of (a ∷ [])) (bytes_of (b ∷ []))
-    ∙ ap (λ (x : ℕ). before ++ bytes_of (x ∷ b ∷ [])) ea
-    ∙ ap (λ (x : ℕ). before ++ bytes_of (word_word_of w.len w.value ∷ x ∷ [])) eb
-    ∙ ap (λ (t : Bool). before ++ bytes_of (word_word_of w.len w.value ∷ cond t [] (weigh_word_of k w.weight ∷ []))) (sym (ne_eqb w.weight 0 heavy))
 
 table_push : (j : ℕ) (ws : List Codeword) (w : Codeword) → table_words j (ws ++ w ∷ []) ≡ table_words j ws ++ entry_words (j + length ws) w
 table_push j [] w = append-nil (entry_words j w) ∙ ap (λ (i : ℕ). entry_words i w) (sym (add-zero j))

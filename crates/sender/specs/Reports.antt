@@ -1,5 +1,6 @@
 -- How a line of the account reads, and which lines are accepted.
-use Rattle.std.specs.Prelude.{ℕ, Bool, true, false, ◌&&◌, List, [], ◌∷◌, ◌++◌, is_ok, Ok, Err, codes, decimal}
+use Rattle.std.specs.Prelude.{ℕ, Bool, false, List, ◌++◌, is_ok, Ok, Err, codes, decimal}
+use Rattle.std.specs.List.{list_all}
 use Rattle.refusal.specs.Refusals.{text}
 use Rattle.script.specs.Script.{reason}
 use Rattle.sender.specs.declared.Line.{Line}
@@ -22,5 +23,4 @@ accepted (Step r) = is_ok r
 accepted (Unread f) = false
 
 abbrev pub all_accepted : List Line → Bool
-all_accepted [] = true
-all_accepted (l ∷ ls) = accepted l.report && all_accepted ls
+all_accepted ls = list_all (λ l. accepted l.report) ls

@@ -1,96 +1,16 @@
 // The run over a text, line by line.
-ghost use Rattle.std.specs.Prelude.{◌≡◌, ℕ, ◌+◌, ◌<◌, ◌≤◌, List, [], ◌∷◌, ◌++◌, length, Some, Ok, vec_len, vec_capacity, MatchResult};
-ghost use Rattle.std.specs.List.{slice_get};
-ghost use Rattle.refusal.specs.Checks.{Judged};
-ghost use Rattle.refusal.specs.Refusals.{layer};
-ghost use Rattle.refusal.specs.declared.Layer.TheVariants.{Table};
-ghost use Rattle.codetable.specs.Tables.{words, word_checks};
+ghost use Rattle.std.specs.Prelude.{◌≡◌, ℕ, ◌+◌, ◌<◌, ◌≤◌, List, ◌++◌, length, vec_len, vec_capacity, MatchResult};
 ghost use Rattle.codetable.specs.declared.word.Codeword.{Codeword};
 ghost use Rattle.transfer.specs.Calls.{Carries};
-ghost use Rattle.script.specs.Script.{lines as lines_of, fields, reading};
-ghost use Rattle.script.specs.declared.Entry.TheVariants.{Step};
-ghost use Rattle.sender.specs.Effects.{Progress, weighed, Does, listed, start, Runs};
+ghost use Rattle.script.specs.Script.{lines as lines_of};
+ghost use Rattle.sender.specs.Effects.{Progress, listed, start, Runs};
 ghost use Rattle.sender.specs.Accounts.{Accounts, Holds, Closes};
 
 use crate::session::Session;
 use crate::{Account, Line, Report};
-use codetable::CodeTable;
-use refusal::{Refusal, TransferFault};
-use script::{Entry, line_end, parse_line};
+use refusal::TransferFault;
+use script::is_newline;
 use transfer::{ClosedTransfer, OpenTransfer};
-
-// Enters a word with its weight.
-fn enter(table: &mut CodeTable, len: usize, value: u32, weight: Option<u16>) -> Result<(), Refusal>
-    ensures answer { Judged (word_checks (words table.old) len value) (λ f. f) result (λ _. words table.new ≡ words table.old ++ weighed len value weight ∷ []) (λ f. (layer f ≡ Table) × (words table.new ≡ words table.old)) }
-{
-    let k = table.len();
-    table.push(len, value)?;
-    if let Some(weight) = weight {
-        table.set_weight(k, weight)?;
-    }
-    Ok(())
-}
-
-// Sends word k of the session's table.
-fn send(session: Session, k: usize, buffer: &mut [u8]) -> (Session, Result<(), Refusal>)
-    ensures does { (before : List ℕ) (s : Progress) → Holds s session before buffer.old → (t : Progress) × Does (length before) s (Ok (Some (Step k))) (Some (Report.Step result.1)) t × Holds t result.0 before buffer.new }
-{
-    let Session { table, transfer } = session;
-    match transfer.step(&table, k, buffer) {
-        Ok(transfer) => (Session { table, transfer }, Ok(())),
-        Err(back) => {
-            let (transfer, fault) = back;
-            (Session { table, transfer }, Err(fault.into()))
-        }
-    }
-}
-
-// Does what an entry says.
-fn follow_entry(session: Session, entry: Entry, buffer: &mut [u8]) -> (Session, Report)
-    ensures does { (before : List ℕ) (s : Progress) → Holds s session before buffer.old → (t : Progress) × Does (length before) s (Ok (Some entry)) (Some result.1) t × Holds t result.0 before buffer.new }
-{
-    match entry {
-        Entry::Word { len, value, weight } => {
-            let Session {
-                mut table,
-                transfer,
-            } = session;
-            let answer = enter(&mut table, len, value, weight);
-            (Session { table, transfer }, Report::Word(answer))
-        }
-        Entry::Step { word } => {
-            let (session, answer) = send(session, word as usize, buffer);
-            (session, Report::Step(answer))
-        }
-    }
-}
-
-// Does what a line says, if it says something.
-fn follow_some(
-    session: Session,
-    entry: Option<Entry>,
-    buffer: &mut [u8],
-) -> (Session, Option<Report>)
-    ensures does { (before : List ℕ) (s : Progress) → Holds s session before buffer.old → (t : Progress) × Does (length before) s (Ok entry) result.1 t × Holds t result.0 before buffer.new }
-{
-    match entry {
-        Some(entry) => {
-            let (session, report) = follow_entry(session, entry, buffer);
-            (session, Some(report))
-        }
-        None => (session, None),
-    }
-}
-
-// Does what a line says.
-fn follow(session: Session, line: &[u8], buffer: &mut [u8]) -> (Session, Option<Report>)
-    ensures does { (before : List ℕ) (s : Progress) → Holds s session before buffer.old → (t : Progress) × Does (length before) s (reading (fields line.now)) result.1 t × Holds t result.0 before buffer.new }
-{
-    match parse_line(line) {
-        Ok(entry) => follow_some(session, entry, buffer),
-        Err(fault) => (session, Some(Report::Unread(fault))),
-    }
-}
 
 // Adds a line to the account where there is something to report.
 fn note(lines: &mut Vec<Line>, number: usize, report: Option<Report>)
@@ -108,13 +28,7 @@ fn note(lines: &mut Vec<Line>, number: usize, report: Option<Report>)
 pub fn count_lines(text: &[u8]) -> usize
     ensures count { result ≡ length (lines_of text.now) }
 {
-    let mut count = 1;
-    let mut end = line_end(text, 0);
-    while end < text.len() {
-        count += 1;
-        end = line_end(text, end + 1);
-    }
-    count
+    text.split(is_newline).count()
 }
 
 // Follows each line of a text, from a session without words and steps.
@@ -123,33 +37,20 @@ fn follow_all(text: &[u8], buffer: &mut [u8], account: &mut Vec<Line>) -> Sessio
     requires room { length (lines_of text.now) ≤ vec_capacity account.old }
     ensures runs { (t : Progress) × Runs (length buffer.old) 1 start (lines_of text.now) account.new.items t × Holds t result buffer.old buffer.new }
 {
-    let mut session = Session {
-        table: CodeTable::new(),
-        transfer: OpenTransfer::new(),
-    };
-    let mut number = 1;
-    let mut from = 0;
-    loop {
-        let end = line_end(text, from);
-        let (next, report) = follow(session, &text[from..end], buffer);
+    let mut session = Session::new();
+    for (i, line) in text.split(is_newline).enumerate() {
+        let (next, report) = session.follow(line, buffer);
         session = next;
-        note(account, number, report);
-        if end >= text.len() {
-            return session;
-        }
-        number += 1;
-        from = end + 1;
+        note(account, i + 1, report);
     }
+    session
 }
 
 // Closes the transfer.
 fn finish(transfer: OpenTransfer, buffer: &mut [u8]) -> Result<ClosedTransfer, TransferFault>
     ensures closed { (before : List ℕ) (sent : List Codeword) → Carries transfer before buffer.old sent → Closes before sent result buffer.new }
 {
-    match transfer.close(buffer) {
-        Ok(closed) => Ok(closed),
-        Err(back) => Err(back.1),
-    }
+    transfer.close(buffer).map_err(|(_, fault)| fault)
 }
 
 // Follows a text: its words go into a new table, its steps into a transfer that is closed at the end.

@@ -1,7 +1,5 @@
 // A whole file: the words of a table, and then a transfer.
-ghost use Rattle.std.specs.Prelude.{◌≡◌, ◌<◌, [], ◌∷◌, ◌++◌, IfOk, Some, OnOk};
-ghost use Rattle.std.specs.List.{slice_get};
-ghost use Rattle.codetable.specs.declared.word.Codeword.{Codeword};
+ghost use Rattle.std.specs.Prelude.{◌≡◌, ◌<◌, [], ◌∷◌, ◌++◌, IfOk, OnOk};
 ghost use Rattle.codetable.specs.Codewords.{Formed, most_words};
 ghost use Rattle.codetable.specs.Tables.{words};
 ghost use Rattle.transfer.specs.Format.{word_word_of, weigh_word_of, bytes_of};
@@ -33,13 +31,12 @@ fn push_word(image: &mut Vec<u8>, word: u32) -> Result<(), AllocError>
     image.extend_from_slice(&word.to_be_bytes())
 }
 
-// Adds the file words that enter word k of a table, if there is one.
-fn push_entry(image: &mut Vec<u8>, table: &CodeTable, k: usize) -> Result<(), AllocError>
-    ensures bytes { (w : Codeword) → slice_get (words table.now) k ≡ Some w → OnOk result (image.new.items ≡ image.old.items ++ bytes_of (entry_words k w)) }
+// Adds the file words that enter word k.
+fn push_entry(image: &mut Vec<u8>, k: usize, word: Codeword) -> Result<(), AllocError>
+    requires formed { Formed word }
+    requires few { k < most_words }
+    ensures bytes { OnOk result (image.new.items ≡ image.old.items ++ bytes_of (entry_words k word)) }
 {
-    let Some(word) = table.word(k) else {
-        return Ok(());
-    };
     push_word(image, word_word(word))?;
     if word.weight == 0 {
         return Ok(());
@@ -52,8 +49,8 @@ pub fn file_image(heap: Global, table: &CodeTable, transfer: &[u8]) -> Result<Ve
     ensures bytes { IfOk result (λ v. v.items ≡ bytes_of (table_words 0 (words table.now)) ++ transfer.now) }
 {
     let mut image = Vec::new(heap);
-    for k in 0..table.len() {
-        push_entry(&mut image, table, k)?;
+    for (k, &word) in table.as_slice().iter().enumerate() {
+        push_entry(&mut image, k, word)?;
     }
     image.extend_from_slice(transfer)?;
     Ok(image)

@@ -46,8 +46,7 @@ impl Report {
         ensures value { result ≡ accepted self.now }
     {
         match self {
-            Report::Word(answer) => answer.is_ok(),
-            Report::Step(answer) => answer.is_ok(),
+            Report::Word(answer) | Report::Step(answer) => answer.is_ok(),
             Report::Unread(_) => false,
         }
     }
@@ -58,12 +57,11 @@ impl Account {
     pub fn accepted(&self) -> bool
         ensures value { result ≡ (all_accepted self.now.lines.items && is_ok self.now.closed) }
     {
-        for line in self.lines.as_slice() {
-            if !line.report.accepted() {
-                return false;
-            }
-        }
-        self.closed.is_ok()
+        self.lines
+            .as_slice()
+            .iter()
+            .all(|line| line.report.accepted())
+            && self.closed.is_ok()
     }
 }
 

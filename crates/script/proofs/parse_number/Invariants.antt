@@ -1,8 +1,9 @@
 use Rattle.std.proofs.Common.{◌≡◌, ◌+◌, min, true, take}
 use Rattle.std.specs.Char.{is_ascii_digit}
-use Rattle.script.specs.Script.{all, decimal}
+use Rattle.std.specs.List.{list_all}
+use Rattle.std.specs.Str.Parse.{digits_value}
 use Rattle.script.proofs.parse_number.Given as goal
 
 abbrev pub invariant-loop-byte : goal.invariant-loop-byte
 invariant-loop-byte l =
-    (all is_ascii_digit (take l.byte-index l.field) ≡ true) × (l.sum ≡ min (decimal (take l.byte-index l.field)) (l.limit + 1))
+    (list_all is_ascii_digit (take l.byte-index l.field) ≡ true) × (l.sum ≡ min (digits_value 10 (take l.byte-index l.field)) (l.limit + 1))

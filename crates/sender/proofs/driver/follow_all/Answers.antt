@@ -1,52 +1,52 @@
-use Rattle.std.proofs.Common.{◌+◌, List, ◌++◌, length, vec_items, sym, ap, ◌∙◌, subst, arith}
-use Rattle.std.specs.List.{between}
-use Rattle.std.proofs.lemmas.List.{nil_from_length}
+use Rattle.std.proofs.Common.{◌+◌, List, ◌++◌, length, vec_items, refl, sym, ap, ◌∙◌, subst, rules, tests, of_calls, arith}
+use Rattle.std.proofs.lemmas.List.{nil_from_length, length_push}
 use Rattle.script.specs.Script.{lines}
 use Rattle.sender.specs.declared.Line.{Line}
-use Rattle.sender.specs.Effects.{start, Runs}
-use Rattle.sender.proofs.Followed.{Sofar, sofar_more, sofar_last}
+use Rattle.sender.specs.Effects.{start, listed, Runs}
+use Rattle.sender.proofs.Followed.{Sofar, begins, this_line, no_line, sofar_more, sofar_last}
 use Rattle.sender.proofs.driver.follow_all.Goals as goal
 
-pub loop-session-init : goal.loop-session-init
-loop-session-init c =
+pub loop-i-init : goal.loop-i-init
+loop-i-init c =
     let items = nil_from_length (vec_items c.args.account.now) (sym c.args.account.now.ok.0 ∙ c.requires.empty) in (
-      omega arith,
-      omega arith,
-      omega (arith, c.requires.empty, c.requires.room),
+      search of_calls,
+      search of_calls,
+      omega (arith, c.requires.empty),
+      refl,
       start,
-      record { table = c.new.ensures.empty; sent = c.new-2.ensures.carries c.args.buffer.now },
+      c.new-session.ensures.starts c.args.buffer.now,
       λ rs u runs. subst (λ (l : List Line). Runs (length c.args.buffer.now) 1 start (lines c.args.text.now) (l ++ rs) u) (sym items) runs,
     )
 
-pub returns-then-end-text : goal.returns-then-end-text
-returns-then-end-text c =
-    let before = c.args.buffer.now in
-    let text = c.args.text.now in
-    let loop = c.loop-session in
-    let end = c.line_end-end.result in
-    let step = c.follow-report.ensures.does before loop.invariant.3 loop.invariant.4 in
-    record {
-      runs = (
-        step.0,
-        subst (λ (l : List Line). Runs (length before) 1 start (lines text) l step.0) (sym c.note.ensures.items)
-            (sofar_last (length before) text loop.from loop.number loop.invariant.3 step.0 (vec_items loop.account) (between loop.from end text) c.follow-report.result.1 loop.invariant.5 step.1 (c.line_end-end.ensures.last c.if-end-text.true)),
-        step.2,
-      );
-    }
+pub note-requires : goal.note-requires
+note-requires c =
+    let turn = this_line _ c.args.text.now _ _ _ _ _ c.loop-i.yielded_by c.next.ensures.steps (begins _ _ _ _ _ c.into_iter-i-iterator.ensures.into_iter_gives c.enumerate-i-items.ensures.source c.enumerate-i-items.ensures.count c.split.ensures.rest c.split.ensures.done (λ x b q k. search (rules, tests))) c.in-Some.i c.in-Some.line c.in-Some.is in
+    record { room = omega (arith, turn.0, c.loop-i.invariant.2, c.loop-i.invariant.3, c.requires.room) }
 
-pub loop-session-preserved : goal.loop-session-preserved
-loop-session-preserved c =
-    let before = c.args.buffer.now in
+pub loop-i-preserved : goal.loop-i-preserved
+loop-i-preserved c =
     let text = c.args.text.now in
-    let loop = c.loop-session in
-    let end = c.line_end-end.result in
-    let step = c.follow-report.ensures.does before loop.invariant.3 loop.invariant.4 in
-    let more = c.line_end-end.ensures.more c.if-end-text.false in (
-      omega (arith, c.if-end-text.false),
-      omega (arith, loop.invariant.1, c.line_end-end.ensures.ahead),
-      omega (arith, loop.invariant.2, ap length more, c.note.ensures.len, c.note.ensures.capacity),
+    let size = length c.args.buffer.now in
+    let k = length c.loop-i.yielded in
+    let inv = c.loop-i.invariant in
+    let turn = this_line _ c.args.text.now _ _ _ _ _ c.loop-i.yielded_by c.next.ensures.steps (begins _ _ _ _ _ c.into_iter-i-iterator.ensures.into_iter_gives c.enumerate-i-items.ensures.source c.enumerate-i-items.ensures.count c.split.ensures.rest c.split.ensures.done (λ x b q k. search (rules, tests))) c.in-Some.i c.in-Some.line c.in-Some.is in
+    let goes = c.in-Some.ensures.goes.on inv.1 in
+    let report = c.follow-report.result.1 in
+    let more = length_push c.loop-i.yielded (c.in-Some.i, c.in-Some.line) in
+    let step = c.follow-report.ensures.does c.args.buffer.now inv.4 inv.5 in (
+      goes.0,
+      goes.1,
+      omega (arith, inv.2, c.note.ensures.len, more),
+      c.note.ensures.capacity ∙ inv.3,
       step.0,
       step.2,
-      subst (Sofar (length before) text (end + 1) (loop.number + 1) step.0) (sym c.note.ensures.items)
-          (sofar_more (length before) text loop.from loop.number loop.invariant.3 step.0 (vec_items loop.account) (between loop.from end text) c.follow-report.result.1 loop.invariant.5 step.1 (end + 1) more),
+      subst (λ n. Sofar size text n step.0 (vec_items c.note.new.lines)) (sym more)
+          (subst (Sofar size text (k + 1) step.0) (sym (c.note.ensures.items ∙ ap (λ n. vec_items c.loop-i.account ++ listed (n + 1) report) turn.1))
+          (sofar_more size text k inv.4 step.0 (vec_items c.loop-i.account) c.in-Some.line.now report inv.6 turn.0 turn.2 step.1)),
     )
+
+pub returns : goal.returns
+returns c =
+    let inv = c.loop-i.invariant in
+    let end = no_line _ c.args.text.now _ _ _ _ _ c.loop-i.yielded_by c.next.ensures.steps (begins _ _ _ _ _ c.into_iter-i-iterator.ensures.into_iter_gives c.enumerate-i-items.ensures.source c.enumerate-i-items.ensures.count c.split.ensures.rest c.split.ensures.done (λ x b q k. search (rules, tests))) c.in-None.is in
+    record { runs = (inv.4, sofar_last (length c.args.buffer.now) c.args.text.now (length c.loop-i.yielded) inv.4 (vec_items c.loop-i.account) inv.6 end, inv.5) }

@@ -1,23 +1,18 @@
-use Rattle.std.proofs.Common.{ℕ, List, ◌++◌, vec_items, ap, ◌∙◌, arith}
-use Rattle.std.proofs.lemmas.List.{take_all}
-use Rattle.codetable.specs.declared.word.Codeword.{Codeword}
+use Rattle.std.proofs.Common.{vec_items, sym, ap, ◌∙◌}
+use Rattle.std.specs.List.{slice_get}
+use Rattle.std.proofs.lemmas.Option.{slice_get-get_or}
 use Rattle.codetable.specs.Tables.{words}
-use Rattle.codetable.proofs.Stored.{nth_there}
-use Rattle.transfer.specs.Format.{bytes_of}
-use Rattle.sender.specs.Images.{table_words}
 use Rattle.sender.proofs.Imaged.{table_more}
 use Rattle.sender.proofs.image.file_image.Goals as goal
 
+pub push_entry-requires-clause-formed : goal.push_entry-requires-clause-formed
+push_entry-requires-clause-formed c =
+    let there = ap (λ ws. slice_get ws c.loop-k.k) (sym c.loop-k.invariant.0) ∙ slice_get-get_or _ c.loop-k.k _ c.loop-k-test.true in
+    c.args.table.now.formed c.loop-k.k _ there
+
 pub loop-k-preserved : goal.loop-k-preserved
 loop-k-preserved c =
-    let ws = words c.args.table.now in
-    let there = nth_there ws c.loop-k.k (λ h. omega (arith, c.loop-k-test.true, c.len-k-end.ensures.count)) in
-    table_more ws c.loop-k.k there.0 (vec_items c.loop-k.image) (vec_items c.push_entry.new.image) there.1 c.loop-k.invariant (c.in_ok-push_entry.ensures.bytes there.0 there.1)
-
-pub returns : goal.returns
-returns c =
-    let ws = words c.args.table.now in
-    record {
-      bytes = c.in_ok-extend_from_slice.ensures.items
-          ∙ ap (λ (l : List ℕ). l ++ c.args.transfer.now) (c.loop-k.invariant ∙ ap (λ (l : List Codeword). bytes_of (table_words 0 l)) (take_all c.loop-k.k ws (omega (arith, c.loop-k-test.false, c.len-k-end.ensures.count))));
-    }
+    let there = ap (λ ws. slice_get ws c.loop-k.k) (sym c.loop-k.invariant.0) ∙ slice_get-get_or _ c.loop-k.k _ c.loop-k-test.true in (
+      c.loop-k.invariant.0,
+      table_more (words c.args.table.now) c.loop-k.k _ (vec_items c.loop-k.image) (vec_items c.push_entry.new.image) there c.loop-k.invariant.1 c.in_ok-push_entry.ensures.bytes,
+    )

@@ -6,4 +6,4 @@ use Rattle.sender.proofs.image.file_image.Given as goal
 
 -- the words so far are entered
 abbrev pub invariant-loop-k : goal.invariant-loop-k
-invariant-loop-k l = vec_items l.image ≡ bytes_of (table_words 0 (take l.k (words l.table)))
+invariant-loop-k l = (l.word-items ≡ words l.table) × (vec_items l.image ≡ bytes_of (table_words 0 (take l.k (words l.table))))

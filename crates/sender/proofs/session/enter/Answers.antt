@@ -1,27 +1,17 @@
-use Rattle.std.proofs.Common.{ℕ, List, [], ◌∷◌, ◌++◌, length, Option, sym, refl, ap, ◌∙◌, ⊎_elim, arith}
-use Rattle.std.proofs.lemmas.List.{length_push}
+use Rattle.std.proofs.Common.{ℕ, List, [], ◌∷◌, ◌++◌, Option, sym, refl, ap, ◌∙◌}
 use Rattle.std.proofs.lemmas.Result.{err_from_is_err_and}
 use Rattle.codetable.specs.declared.word.Codeword.{Codeword}
 use Rattle.codetable.specs.Codewords.{reweighed}
 use Rattle.codetable.specs.Tables.{words, entered}
 use Rattle.sender.specs.Effects.{weighed}
 use Rattle.sender.proofs.Followed.{reweighed_last}
-use Rattle.sender.proofs.driver.enter.Goals as goal
+use Rattle.sender.proofs.session.enter.Goals as goal
 
 pub returns-in_err-push : goal.returns-in_err-push
 returns-in_err-push c =
     let p = err_from_is_err_and c.from_residual.result c.from_residual.ensures.1 in
     let told = c.in_err-push.ensures.answer in
     rw (p.1, p.2) (record { answer = (told.0, (refl, ap words told.1)) })
-
--- the word that was just added is there
-pub returns-in_err-set_weight : goal.returns-in_err-set_weight
-returns-in_err-set_weight c =
-    let ws = words c.args.table.now in
-    let more = ap length c.in_ok-push.ensures.answer.1 ∙ length_push ws (entered c.args.len c.args.value) in
-    absurd (
-    ⊎_elim (λ due. omega (arith, due.0, more, c.len-k.ensures.count)) (λ none. none.1) c.in_err-set_weight.ensures.answer.0
-    )
 
 pub returns-in_ok-set_weight : goal.returns-in_ok-set_weight
 returns-in_ok-set_weight c =
