@@ -1,3 +1,4 @@
+pub mod Keyed
 pub mod Scans
 pub mod Tallies
 pub mod Filling

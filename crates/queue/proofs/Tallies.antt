@@ -1,16 +1,9 @@
 -- The number of places held: of none, of the same places, and after one place is set.
-use Rattle.std.proofs.Common.{◌≡◌, ℕ, zero, suc, ◌+◌, ◌<◌, ◌≤◌, Bool, true, false, is_some, Some, None, Option, sym, refl, ap, ◌∙◌, ⊎_elim, not-suc-le-zero, add-one, arith}
-use Rattle.std.proofs.lemmas.Bool.{cases_eq, true≢false}
+use Rattle.std.proofs.Common.{◌≡◌, ℕ, zero, suc, ◌+◌, ◌<◌, ◌≤◌, Bool, true, false, List, length, get_or, take, count_by, is_some, Some, None, Option, sym, refl, ap, ◌∙◌, ⊎_elim, not-suc-le-zero, add-one, arith}
+use Rattle.std.proofs.lemmas.Bool.{cases_eq, cases_Bool, true≢false}
+use Rattle.std.proofs.lemmas.List.{take_all}
+use Rattle.std.proofs.lemmas.List.Sums.{count_by_more_yes, count_by_more_no}
 use Rattle.queue.specs.Queues.{Model, Same, Sets, tally, one, held_count}
-
--- one place more
-pub tally_more : (f : ℕ → Option ℕ) (n : ℕ) → tally f (n + 1) ≡ tally f n + one (f n)
-unfolding tally
-tally_more f n = ap (tally f) (add-one n)
-
-pub tally_none : (f : ℕ → Option ℕ) → tally f 0 ≡ 0
-unfolding tally
-tally_none f = refl
 
 -- the same places
 pub tally_same : (f g : ℕ → Option ℕ) (n : ℕ) → ((p : ℕ) → p < n → g p ≡ f p) → tally g n ≡ tally f n
@@ -88,6 +81,28 @@ one_some (Some k) e = refl
 pub one_none : (o : Option ℕ) → is_some o ≡ false → one o ≡ 0
 one_none None e = refl
 one_none (Some k) e = absurd (true≢false e)
+
+-- the places of a row that have a key
+tally_front : (cells : List (Option ℕ)) (n : ℕ) → n ≤ length cells → tally (λ p. get_or cells p None) n ≡ count_by is_some (take n cells)
+unfolding tally
+tally_front cells zero le = refl
+tally_front cells (suc n) le =
+    let before = tally_front cells n (omega arith) in
+    let next : count_by is_some (take (n + 1) cells) ≡ count_by is_some (take (suc n) cells) = ap (λ (m : ℕ). count_by is_some (take m cells)) (add-one n) in
+    ⊎_elim
+    (λ h.
+    let more = count_by_more_yes is_some cells n None (omega arith) h in
+    let here = one_some (get_or cells n None) h in
+    omega arith)
+    (λ h.
+    let more = count_by_more_no is_some cells n None (omega arith) h in
+    let here = one_none (get_or cells n None) h in
+    omega arith)
+    (cases_Bool (is_some (get_or cells n None)))
+
+pub tally_cells : (cells : List (Option ℕ)) → tally (λ p. get_or cells p None) (length cells) ≡ count_by is_some cells
+tally_cells cells =
+    tally_front cells (length cells) (omega arith) ∙ ap (λ (xs : List (Option ℕ)). count_by is_some xs) (take_all (length cells) cells (omega arith))
 
 -- the number held by a queue that stays the same, and by one of which one place is set
 pub count_same : (m q : Model) → Same m q → held_count q ≡ held_count m

@@ -1,5 +1,6 @@
 pub mod Queues
 pub mod Arrays
+pub mod Spots
 pub mod Trees
 pub mod Bounds
 pub mod Sorting

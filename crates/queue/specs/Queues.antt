@@ -11,6 +11,10 @@ pub record Model : Type 0 where
   pub size : ℕ
   pub key : ℕ → Option ℕ
 
+-- the size of each queue of this crate
+abbrev pub places : ℕ
+places = 8448
+
 -- no place is held from the size on
 abbrev pub Bounded : Model → Type 0
 Bounded m = (p : ℕ) → m.size ≤ p → m.key p ≡ None

@@ -5,10 +5,11 @@ ghost use Rattle.std.specs.Prelude.{◌≡◌};
 ghost use Rattle.refusal.specs.Checks.{Judged};
 ghost use Rattle.queue.specs.Queues.{Model, Bounded, Same, Emptied, Offered, Looked, Taken, held_count, offer_checks, by_queue};
 
+pub use either::Either;
 use refusal::QueueFault;
 
-pub mod either;
 pub mod heap;
+mod kinds;
 pub mod sorted;
 pub mod strip;
 mod tree;

@@ -1,79 +1,54 @@
 // A queue that keeps the key of each place, or none, in a row, and scans the row for the least.
 // An offer and the size cost O(1); look, take, held and empty cost O(size).
-ghost use Rattle.std.specs.Prelude.{◌≡◌, ℕ, ◌+◌, ◌<◌, length, replicate, None, Option};
-ghost use Rattle.queue.specs.Queues.{Bare, Looked, tally};
-ghost use Rattle.queue.specs.Arrays.{places, strip_model, Scanned};
-ghost use Rattle.queue.specs.Bounds.{strip_bounded};
+ghost use Rattle.std.specs.Prelude.{◌≡◌, length, replicate, None, is_some, count_by};
+ghost use Rattle.queue.specs.Queues.{places, Bare, Looked};
 
 use crate::{PLACES, Queue};
 use refusal::QueueFault;
 
-// The key of each place, or none where it is not held.
+// The key of each place, or none where it is not held. By rule the array stands in an inner struct, which is scanned.
 #[derive(Clone, Copy)]
 struct Keys {
     at: [Option<u32>; PLACES],
+    ghost full: { length at ≡ places },
 }
 
 #[derive(Drop)]
 pub struct Strip {
     inner: Keys,
-    ghost full: { length inner.at ≡ places },
-}
-
-// The better of what a scan has found below a place, and that place.
-fn sooner(best: Option<(u32, usize)>, cell: Option<u32>, place: usize) -> Option<(u32, usize)>
-    ensures scans { (key : ℕ → Option ℕ) → Scanned key place best → key place ≡ cell → Scanned key (place + 1) result }
-{
-    let Some(key) = cell else {
-        return best;
-    };
-    let Some((least, _)) = best else {
-        return Some((key, place));
-    };
-    if key < least {
-        Some((key, place))
-    } else {
-        best
-    }
 }
 
 impl Keys {
+    ghost use Rattle.queue.specs.Arrays.{strip_model};
+
     fn new() -> Keys
         ensures blank { result.at ≡ replicate places None }
-        ensures full { length result.at ≡ places }
     {
         Keys { at: [None; PLACES] }
     }
 
     // How many places have a key.
     fn count(&self) -> usize
-        requires full { length self.now.at ≡ places }
-        ensures count { result ≡ tally (strip_model self.now).key places }
+        ensures count { result ≡ count_by is_some self.now.at }
     {
-        let mut count = 0;
-        for i in 0..PLACES {
-            let cell = self.at[i];
-            if cell.is_some() {
-                count += 1;
-            }
-        }
-        count
+        self.at.iter().filter(|cell| cell.is_some()).count()
     }
 
     // The least key and its place, the lowest place among equal keys.
     fn least(&self) -> Option<(u32, usize)>
-        requires full { length self.now.at ≡ places }
         ensures least { Looked (strip_model self.now) result }
     {
-        let mut best = None;
-        for i in 0..PLACES {
-            best = sooner(best, self.at[i], i);
-        }
-        best
+        self.at
+            .iter()
+            .enumerate()
+            .filter_map(|(place, cell)| cell.map(|key| (key, place)))
+            .reduce(|best, next| if next.0 < best.0 { next } else { best })
     }
 }
 
 impl Strip {
+    ghost use Rattle.queue.specs.Arrays.{strip_model};
+
     // A strip that holds no place.
     pub fn new() -> Strip
         ensures bare { Bare (strip_model result.inner) }
@@ -84,9 +59,12 @@ impl Strip {
 }
 
 impl Queue for Strip {
+    ghost use Rattle.queue.specs.Arrays.{strip_model};
+    ghost use Rattle.queue.specs.Bounds.{strip_bounded};
+
     ghost model = { λ s. strip_model s.inner };
 
-    ghost bounded = { λ s. strip_bounded s.inner s.full };
+    ghost bounded = { λ s. strip_bounded s.inner };
 
     fn size(&self) -> usize {
         PLACES
@@ -104,10 +82,7 @@ impl Queue for Strip {
         if place >= PLACES {
             return Err(QueueFault::Short);
         }
-        let kept = match self.inner.at[place] {
-            Some(had) => key.min(had),
-            None => key,
-        };
+        let kept = self.inner.at[place].map_or(key, |had| key.min(had));
         self.inner.at[place] = Some(kept);
         Ok(())
     }
@@ -117,10 +92,8 @@ impl Queue for Strip {
     }
 
     fn take(&mut self) -> Option<(u32, usize)> {
-        let found = self.inner.least();
-        if let Some((_, place)) = found {
-            self.inner.at[place] = None;
-        }
-        found
+        let (key, place) = self.inner.least()?;
+        self.inner.at[place] = None;
+        Some((key, place))
     }
 }
