@@ -1,16 +1,26 @@
 -- The edges of the tails map, by their indexes.
-use Rattle.std.proofs.Common.{◌≡◌, ℕ, zero, suc, ◌+◌, ◌-◌, ◌*◌, ◌/◌, ◌%◌, ◌<◌, ◌≤◌, ◌&&◌, ltb, List, [], ◌∷◌, ◌++◌, length, drop, Some, None, sym, refl, ap, ◌∙◌, suc-mul, mul-suc, arith, length-append, length-drop}
+use Rattle.std.proofs.Common.{◌≡◌, ℕ, zero, suc, ◌+◌, ◌-◌, ◌*◌, ◌/◌, ◌%◌, ◌<◌, ◌≤◌, ◌&&◌, ltb, List, [], ◌∷◌, ◌++◌, length, drop, Some, None, Option, MatchOption, sym, refl, ap, ◌∙◌, suc-mul, mul-suc, arith, length-append, length-drop}
 use Rattle.std.specs.List.{slice_get}
 use Rattle.std.proofs.lemmas.List.{drop_all}
 use Rattle.std.proofs.lemmas.Bool.{cond-true, and_from, lt-ltb}
 use Rattle.codetable.specs.declared.word.Codeword.{Codeword}
-use Rattle.codetable.specs.Codewords.{most_bits}
-use Rattle.codetable.proofs.Stored.{nth_there, nth_drop, drop_nth}
+use Rattle.codetable.specs.declared.table.CodeTable.{CodeTable}
+use Rattle.codetable.specs.Codewords.{most_bits, most_words, Formed}
+use Rattle.codetable.specs.Tables.{words}
+use Rattle.codetable.proofs.Stored.{nth_within, nth_there, nth_drop, drop_nth}
 use Rattle.search.specs.Graphs.{nth as edge_nth}
 use Rattle.distance.specs.declared.tails.Tail.{Tail}
 use Rattle.distance.specs.Tails.{compared, against, pairs, tail_edges}
 use Rattle.distance.specs.Steps.{nth_front, nth_behind, length-against, against_at}
-use Rattle.distance.specs.Places.{TailOf}
+use Rattle.distance.specs.Laws.{sound}
+use Rattle.distance.specs.Places.{TailOf, NoTail}
+
+-- what a table says of a word by its number
+pub stored_at : (t : CodeTable) {k : ℕ} {w : Codeword} → Some w ≡ slice_get (words t) k → (k < most_words) × Formed w
+stored_at t {k} {w} found =
+    let s = sound t in
+    let below = nth_within (words t) k w (sym found) in
+    (omega (arith, s.few), s.formed k w (sym found))
 
 below_square : (n : ℕ) → n * (n - 1) + n ≡ n * n
 below_square zero = refl
@@ -39,6 +49,11 @@ tail_row ws p t of =
     ∙ ap (λ (n : ℕ). tail_edges ws t.number n (slice_get ws t.number)) (sym cut)
     ∙ ap (tail_edges ws t.number t.cut) of.word
     ∙ cond-true (ltb 0 t.cut && ltb t.cut t.word.len) (against t.number t.word t.cut 0 ws) [] (and_from (ltb 0 t.cut) (ltb t.cut t.word.len) (lt-ltb 0 t.cut of.some) (lt-ltb t.cut t.word.len of.less))
+
+-- how many edges a place has: as many as there are words, or none if it is no tail
+pub tail_count : (ws : List Codeword) (p n : ℕ) (o : Option Tail) → MatchOption o (NoTail ws p) (TailOf ws p) → MatchOption o (n ≡ 0) (λ t. n ≡ length ws) → n ≡ length (tail_edges ws (p / most_bits) (p % most_bits) (slice_get ws (p / most_bits)))
+tail_count ws p n None lacks e = e ∙ sym (ap length lacks)
+tail_count ws p n (Some t) of e = e ∙ sym (ap length (tail_row ws p t of) ∙ length-against t.number t.word t.cut 0 ws)
 
 module _ (ws : List Codeword) (i : ℕ) (lt : i < length ws) (a : Codeword) (at_i : slice_get ws i ≡ Some a) where
   row : List (ℕ × ℕ)

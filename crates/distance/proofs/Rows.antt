@@ -1,5 +1,8 @@
 -- Distances of rows of bits.
-use Rattle.std.proofs.Common.{◌≡◌, ℕ, zero, suc, ◌+◌, ◌<◌, ◌≤◌, Bool, true, false, List, [], ◌∷◌, ◌++◌, length, get_or, take, drop, sym, refl, ap, arith}
+use Rattle.std.proofs.Common.{◌≡◌, ℕ, zero, suc, ◌+◌, min, cond, Bool, true, false, not, List, [], ◌∷◌, ◌++◌, length, get_or, drop, sym, refl, ap, ◌∙◌, arith}
+use mathlib.Core.Bool.{beq}
+use Rattle.std.specs.List.{count_by, range_with_len}
+use Rattle.std.proofs.lemmas.List.Sums.{sum_by-cons}
 use Rattle.distance.specs.Distances.{hamming, differing}
 
 differing_sym : (x y : Bool) → differing x y ≡ differing y x
@@ -44,21 +47,23 @@ hamming_cut [] (w ∷ ws) us vs = omega arith
 hamming_cut (t ∷ ts) [] us vs = omega arith
 hamming_cut (t ∷ ts) (w ∷ ws) us vs = let here = differing_sym w t in let rest = hamming_cut ts ws us vs in omega arith
 
--- one bit more on both sides
-pub hamming_more : (xs ys : List Bool) (i : ℕ) → i < length xs → i < length ys → hamming (take (suc i) xs) (take (suc i) ys) ≡ hamming (take i xs) (take i ys) + differing (get_or xs i false) (get_or ys i false)
-unfolding hamming
-hamming_more [] ys i lx ly = absurd (omega arith)
-hamming_more (x ∷ xs) [] i lx ly = absurd (omega arith)
-hamming_more (x ∷ xs) (y ∷ ys) zero lx ly = omega arith
-hamming_more (x ∷ xs) (y ∷ ys) (suc i) lx ly = let rest = hamming_more xs ys i (omega arith) (omega arith) in omega arith
+differs_counts : (x y : Bool) → cond (not (beq x y)) 1 0 ≡ differing x y
+differs_counts false false = refl
+differs_counts false true = refl
+differs_counts true false = refl
+differs_counts true true = refl
 
--- all that both have
-pub hamming_all : (xs ys : List Bool) (m : ℕ) → m ≤ length xs → m ≤ length ys → (m < length xs → m < length ys → ⊥) → hamming (take m xs) (take m ys) ≡ hamming xs ys
+-- the distance counts the places at which both rows have a bit and these differ: p tells it of n places from a on
+pub hamming_counts : (p : ℕ → Bool) (a n : ℕ) (xs ys : List Bool) → n ≡ min (length xs) (length ys) → ((i : ℕ) → p (a + i) ≡ not (beq (get_or xs i false) (get_or ys i false))) → count_by p (range_with_len a n) ≡ hamming xs ys
 unfolding hamming
-hamming_all [] ys zero lx ly no_more = refl
-hamming_all [] ys (suc m) lx ly no_more = absurd (omega arith)
-hamming_all (x ∷ xs) [] zero lx ly no_more = refl
-hamming_all (x ∷ xs) [] (suc m) lx ly no_more = absurd (omega arith)
-hamming_all (x ∷ xs) (y ∷ ys) zero lx ly no_more = absurd (no_more (omega arith) (omega arith))
-hamming_all (x ∷ xs) (y ∷ ys) (suc m) lx ly no_more =
-    ap (λ (n : ℕ). differing x y + n) (hamming_all xs ys m (omega arith) (omega arith) (λ a b. no_more (omega arith) (omega arith)))
+hamming_counts p a zero [] ys e h = refl
+hamming_counts p a (suc n) [] ys e h = absurd (omega arith)
+hamming_counts p a zero (x ∷ xs) [] e h = refl
+hamming_counts p a (suc n) (x ∷ xs) [] e h = absurd (omega arith)
+hamming_counts p a zero (x ∷ xs) (y ∷ ys) e h = absurd (omega arith)
+hamming_counts p a (suc n) (x ∷ xs) (y ∷ ys) e h =
+    let rest = hamming_counts p (a + 1) n xs ys (omega arith) (λ i. let next : a + 1 + i ≡ a + suc i = omega arith in ap p next ∙ h (suc i)) in
+    let first : a ≡ a + 0 = omega arith in
+    let here : cond (p a) 1 0 ≡ differing x y = ap (λ (b : Bool). cond b 1 0) (ap p first ∙ h 0) ∙ differs_counts x y in
+    let sum = sum_by-cons (λ (i : ℕ). cond (p i) 1 0) a (range_with_len (a + 1) n) in
+    omega arith

@@ -8,7 +8,7 @@ use Rattle.codetable.specs.declared.table.CodeTable.{CodeTable}
 use Rattle.codetable.specs.Codewords.{bits, most_bits, most_words, AllFormed}
 use Rattle.codetable.specs.Tables.{words}
 use Rattle.codetable.proofs.Bits.{length-bits}
-use Rattle.codetable.proofs.Stored.{nth_within, length-words}
+use Rattle.codetable.proofs.Stored.{nth_within, few_words}
 use Rattle.search.specs.Graphs.{Lawful}
 use Rattle.search.proofs.Shortest.{least_most}
 use Rattle.distance.specs.Distances.{hamming, differing}
@@ -21,9 +21,7 @@ pub record Sound (ws : List Codeword) : Type 0 where
   pub formed : AllFormed ws
 
 pub sound : (t : CodeTable) → Sound (words t)
-sound t =
-    let long = length-words t.inner t.room in
-    record { few = omega (arith, t.room.0); formed = t.formed }
+sound t = record { few = few_words t; formed = t.formed }
 
 differing_most : (x y : Bool) → differing x y ≤ 1
 differing_most false false = omega arith

@@ -1,6 +1,6 @@
 -- The edges of the tails map, by what they compare.
-use Rattle.std.specs.Prelude.{◌≡◌, ℕ, zero, suc, ◌+◌, ◌-◌, ◌/◌, ◌%◌, ◌<◌, ◌≤◌, ◌&&◌, ltb, ◌⊎◌, List, [], ◌∷◌, ◌++◌, length, Some, None, Option, ◌==◌, ◌≢◌, nat_lt, refl}
-use Rattle.std.proofs.Common.{sym, ap, subst, ◌∙◌, inl, inr, ⊎_elim, arith}
+use Rattle.std.specs.Prelude.{◌≡◌, ℕ, zero, suc, ◌+◌, ◌-◌, ◌/◌, ◌%◌, ◌<◌, ◌≤◌, ◌&&◌, ltb, List, [], ◌∷◌, ◌++◌, length, Some, None, Option, ◌==◌, ◌≢◌, nat_lt, refl}
+use Rattle.std.proofs.Common.{sym, ap, subst, ◌∙◌, ⊎_elim, arith}
 use Rattle.std.specs.List.{slice_get}
 use Rattle.std.proofs.lemmas.Nat.{div-add-mod', div-mul-add, mod-mul-add}
 use Rattle.std.proofs.lemmas.Bool.{cases_lt, cases_Bool, cond-true, cond-false, eqb-true, eqb-false, ne_eqb, ltb-true, lt-ltb, and_parts, and_from}
@@ -8,6 +8,7 @@ use Rattle.codetable.specs.declared.word.Codeword.{Codeword}
 use Rattle.codetable.specs.Codewords.{most_bits}
 use Rattle.codetable.proofs.Stored.{nth_within}
 use Rattle.search.specs.Graphs.{Edge, nth as edge_nth}
+use Rattle.search.proofs.Ahead.{none_or_some}
 use Rattle.distance.specs.Tails.{tails, tail_place, start_place, compared, against, pairs, tail_edges, edges_from}
 
 -- word i without its first c bits is compared with word j: that leads to place q at cost d
@@ -42,7 +43,7 @@ length-against i a c j (b ∷ bs) = ap suc (length-against i a c (suc j) bs)
 -- a tail against each word: the edge at index k is that of word j + k
 pub against_at : (i : ℕ) (a : Codeword) (c j : ℕ) (bs : List Codeword) (k : ℕ) (b : Codeword) → slice_get bs k ≡ Some b → edge_nth (against i a c j bs) k ≡ Some (compared i a c (j + k) b)
 unfolding against
-against_at i a c j [] k b e = let z : ◌≡◌ {A = ℕ} 0 1 = cc in absurd (omega arith)
+against_at i a c j [] k b e = absurd (cc)
 against_at i a c j (x ∷ bs) zero b e =
     let word : x ≡ b = cc in
     let number : j ≡ j + zero = omega arith in
@@ -54,22 +55,18 @@ against_at i a c j (x ∷ bs) (suc k) b e =
 pub against_past : (i : ℕ) (a : Codeword) (c j : ℕ) (bs : List Codeword) (k : ℕ) → slice_get bs k ≡ None → edge_nth (against i a c j bs) k ≡ None
 unfolding against
 against_past i a c j [] k e = refl
-against_past i a c j (x ∷ bs) zero e = let z : ◌≡◌ {A = ℕ} 0 1 = cc in absurd (omega arith)
+against_past i a c j (x ∷ bs) zero e = absurd (cc)
 against_past i a c j (x ∷ bs) (suc k) e = against_past i a c (suc j) bs k e
-
-word_or_none : (o : Option Codeword) → (o ≡ None) ⊎ ((b : Codeword) × (o ≡ Some b))
-word_or_none None = inl refl
-word_or_none (Some b) = inr (b, refl)
 
 against_from : (i : ℕ) (a : Codeword) (c j : ℕ) (bs : List Codeword) (k : ℕ) (e : ℕ × ℕ) → edge_nth (against i a c j bs) k ≡ Some e → (b : Codeword) × (slice_get bs k ≡ Some b) × (e ≡ compared i a c (j + k) b)
 against_from i a c j bs k e is =
     ⊎_elim
-    (λ none. let past = against_past i a c j bs k none in let z : ◌≡◌ {A = ℕ} 0 1 = cc in absurd (omega arith))
+    (λ none. let past = against_past i a c j bs k none in absurd (cc))
     (λ s.
     let there = against_at i a c j bs k s.0 s.1 in
     let same : e ≡ compared i a c (j + k) s.0 = cc in
     (s.0, s.1, same))
-    (word_or_none (slice_get bs k))
+    (none_or_some (slice_get bs k))
 
 -- two words of a list with different numbers, which count from i
 record Paired (i : ℕ) (ws : List Codeword) (e : ℕ × ℕ) : Type 0 where
@@ -84,7 +81,7 @@ record Paired (i : ℕ) (ws : List Codeword) (e : ℕ × ℕ) : Type 0 where
 
 pairs_from : (i : ℕ) (ws : List Codeword) (m : ℕ) (e : ℕ × ℕ) → edge_nth (pairs i ws) m ≡ Some e → Paired i ws e
 unfolding pairs
-pairs_from i [] m e is = let z : ◌≡◌ {A = ℕ} 0 1 = cc in absurd (omega arith)
+pairs_from i [] m e is = absurd (cc)
 pairs_from i (a ∷ ws) m e is =
     let row = against i a 0 (suc i) ws in
     ⊎_elim
@@ -121,7 +118,7 @@ pairs_from i (a ∷ ws) m e is =
 
 pairs_at : (i : ℕ) (ws : List Codeword) (x y : ℕ) (a b : Codeword) → x < y → slice_get ws x ≡ Some a → slice_get ws y ≡ Some b → (m : ℕ) × (edge_nth (pairs i ws) m ≡ Some (compared (i + x) a 0 (i + y) b))
 unfolding pairs
-pairs_at i [] x y a b lt at_x at_y = let z : ◌≡◌ {A = ℕ} 0 1 = cc in absurd (omega arith)
+pairs_at i [] x y a b lt at_x at_y = absurd (cc)
 pairs_at i (w ∷ ws) x zero a b lt at_x at_y = absurd (omega arith)
 pairs_at i (w ∷ ws) zero (suc y) a b lt at_x at_y =
     let row = against i w 0 (suc i) ws in
@@ -149,7 +146,7 @@ unfolding edges_from
 from_other ws p ne = cond-false (p == start_place) (pairs 0 ws) (tail_edges ws (p / most_bits) (p % most_bits) (slice_get ws (p / most_bits))) (ne_eqb p start_place ne)
 
 tail_step : (ws : List Codeword) (i c k : ℕ) (o : Option Codeword) (q d : ℕ) → slice_get ws i ≡ o → edge_nth (tail_edges ws i c o) k ≡ Some (q, d) → Step ws (tail_place i c) q d
-tail_step ws i c k None q d at_i is = let z : ◌≡◌ {A = ℕ} 0 1 = cc in absurd (omega arith)
+tail_step ws i c k None q d at_i is = absurd (cc)
 tail_step ws i c k (Some a) q d at_i is =
     let test = nat_lt 0 c && ltb c a.len in
     ⊎_elim
@@ -162,8 +159,7 @@ tail_step ws i c k (Some a) q d at_i is =
     (λ f.
     let row = cond-false test (against i a c 0 ws) [] f in
     let none : edge_nth [] k ≡ Some (q, d) = ap (λ (es : List (ℕ × ℕ)). edge_nth es k) (sym row) ∙ is in
-    let z : ◌≡◌ {A = ℕ} 0 1 = cc in
-    absurd (omega arith))
+    absurd (cc))
     (cases_Bool test)
 
 -- each edge is a step

@@ -1,13 +1,14 @@
 // The tails map of a table. Its paths compare two word sequences word by word: a place is what the one has beyond the
 // other, a word without its first bits.
-ghost use Rattle.std.specs.Prelude.{◌≡◌, ◌≤◌, drop, MatchOption};
+ghost use Rattle.std.specs.Prelude.{◌≡◌, ◌+◌, ◌-◌, ◌≤◌, min, false, not, count_by, drop, slice_index_or, MatchOption};
+ghost use Rattle.std.specs.Bool.{beq};
+ghost use Rattle.std.specs.List.{range_with_len};
 ghost use Rattle.codetable.specs.Codewords.{bits, most_bits, most_words};
 ghost use Rattle.codetable.specs.Tables.{words};
 ghost use Rattle.search.specs.Graphs.{nth as edge_nth};
 ghost use Rattle.distance.specs.Distances.{hamming};
 ghost use Rattle.distance.specs.Tails.{tails, tail_place, compared, against, pairs};
 ghost use Rattle.distance.specs.Laws.{tails_lawful, sound};
-ghost use Rattle.distance.specs.Places.{TailOf, NoTail};
 
 use codetable::{CodeTable, Codeword, MOST_BITS, MOST_WORDS};
 use search::Map;
@@ -26,22 +27,9 @@ pub(crate) struct Tail {
     number: usize,
     word: Codeword,
     cut: usize,
-}
-
-// How many bits differ between a word without its first `cut` bits and another word, as far as both go.
-fn differing_bits(a: Codeword, cut: usize, b: Codeword) -> u32
-    requires within { cut ≤ a.len }
-    ensures count { result ≡ hamming (drop cut (bits a)) (bits b) }
-{
-    let left = usize::from(a.len) - cut;
-    let shorter = left.min(usize::from(b.len));
-    let mut count = 0;
-    for i in 0..shorter {
-        if a.bit(cut + i) != b.bit(i) {
-            count += 1;
-        }
-    }
-    count
+    ghost numbered: { number ≤ most_words },
+    ghost short: { word.len ≤ most_bits },
+    ghost within: { cut ≤ word.len },
 }
 
 // The place of word `number` without its first `cut` bits.
@@ -54,19 +42,40 @@ fn place_of(number: usize, cut: usize) -> usize
 }
 
 impl Tail {
+    // How many bits the tail has.
+    fn len(&self) -> usize
+        ensures count { result ≡ self.now.word.len - self.now.cut }
+    {
+        usize::from(self.word.len) - self.cut
+    }
+
+    // At how many places the bits of the tail and of a word differ, as far as both go.
+    fn differing_bits(&self, word: Codeword) -> usize
+        ensures count { result ≡ count_by (λ i. not (beq (slice_index_or (bits self.now.word) (self.now.cut + i) false) (slice_index_or (bits word) i false))) (range_with_len 0 (min (self.now.word.len - self.now.cut) word.len)) }
+    {
+        let shorter = self.len().min(usize::from(word.len));
+        (0..shorter)
+            .filter(|&i| self.word.bit(self.cut + i) != word.bit(i))
+            .count()
+    }
+
+    // The Hamming distance of the tail and a word.
+    fn distance(&self, word: Codeword) -> u32
+        ensures distance { result ≡ hamming (drop self.now.cut (bits self.now.word)) (bits word) }
+    {
+        self.differing_bits(word) as u32
+    }
+
     // Compares the tail with a word over the shorter of the two: what is left of the longer one is the next place, or the
     // finish, and the cost is the number of bits that differ.
     fn compare(&self, number: usize, word: Codeword) -> (usize, u32)
-        requires tail { self.now.number ≤ most_words }
-        requires within { self.now.cut ≤ self.now.word.len }
-        requires short { self.now.word.len ≤ most_bits }
-        requires word { number ≤ most_words }
-        requires bits { word.len ≤ most_bits }
+        requires number { number ≤ most_words }
+        requires short { word.len ≤ most_bits }
         ensures edge { result ≡ compared self.now.number self.now.word self.now.cut number word }
     {
-        let left = usize::from(self.word.len) - self.cut;
+        let left = self.len();
         let len = usize::from(word.len);
-        let cost = differing_bits(self.word, self.cut, word);
+        let cost = self.distance(word);
         if left < len {
             (place_of(number, left), cost)
         } else if len < left {
@@ -77,12 +86,15 @@ impl Tail {
     }
 }
 
+// A copy of the table: the search reads it as a plain value.
 #[derive(Drop)]
 pub(crate) struct Tails {
     pub(crate) table: CodeTable,
 }
 
 impl Tails {
+    ghost use Rattle.distance.specs.Places.{TailOf, NoTail};
+
     // The tail that a place stands for, or none.
     fn tail(&self, place: usize) -> Option<Tail>
         ensures tail { MatchOption result (NoTail (words self.now.table) place) (TailOf (words self.now.table) place) }
@@ -90,7 +102,8 @@ impl Tails {
         let number = place / MOST_BITS;
         let cut = place % MOST_BITS;
         let word = self.table.word(number)?;
-        if cut > 0 && cut < usize::from(word.len) {
+        // No `then`: a tail's facts follow from the test, which the closure would have to require again.
+        if 0 < cut && cut < usize::from(word.len) {
             Some(Tail { number, word, cut })
         } else {
             None
@@ -98,11 +111,8 @@ impl Tails {
     }
 
     // A tail against word `index`, or none if there is no such word.
-    fn against(&self, tail: Tail, index: usize) -> Option<(usize, u32)>
-        requires number { tail.number ≤ most_words }
-        requires within { tail.cut ≤ tail.word.len }
-        requires short { tail.word.len ≤ most_bits }
-        ensures edge { result ≡ edge_nth (against tail.number tail.word tail.cut 0 (words self.now.table)) index }
+    fn against(&self, tail: &Tail, index: usize) -> Option<(usize, u32)>
+        ensures edge { result ≡ edge_nth (against tail.now.number tail.now.word tail.now.cut 0 (words self.now.table)) index }
     {
         let word = self.table.word(index)?;
         Some(tail.compare(index, word))
@@ -112,18 +122,14 @@ impl Tails {
     fn pair(&self, index: usize) -> Option<(usize, u32)>
         ensures edge { result ≡ edge_nth (pairs 0 (words self.now.table)) index }
     {
-        let len = self.table.len();
+        let words = self.table.as_slice();
+        // No chain over all pairs: it would step through them one by one, and this walk skips a row at a time.
         let mut left = index;
-        for number in 0..len {
-            let behind = len - 1 - number;
+        for (number, &word) in words.iter().enumerate() {
+            let behind = words.len() - 1 - number;
             if left < behind {
-                let word = self.table.word(number)?;
-                let tail = Tail {
-                    number,
-                    word,
-                    cut: 0,
-                };
-                return self.against(tail, number + 1 + left);
+                let cut = 0;
+                return self.against(&Tail { number, word, cut }, number + 1 + left);
             }
             left -= behind;
         }
@@ -157,19 +163,14 @@ impl Map for Tails {
             let len = self.table.len();
             return len * len.saturating_sub(1) / 2;
         }
-        match self.tail(place) {
-            Some(_) => self.table.len(),
-            None => 0,
-        }
+        self.tail(place).map_or(0, |_| self.table.len())
     }
 
     fn edge(&self, place: usize, index: usize) -> Option<(usize, u32)> {
         if place == START {
             return self.pair(index);
         }
-        match self.tail(place) {
-            Some(tail) => self.against(tail, index),
-            None => None,
-        }
+        let tail = self.tail(place)?;
+        self.against(&tail, index)
     }
 }

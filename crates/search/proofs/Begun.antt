@@ -1,36 +1,15 @@
--- The costs as they are cleared, and what holds when a search begins.
+-- What holds when a search begins.
 use Rattle.std.proofs.Common.{◌≡◌, ℕ, ◌+◌, ◌<◌, ◌≤◌, List, length, set, Some, None, Option, sym, refl, ap, ◌∙◌, subst, inl, ⊎_elim, arith}
 use Rattle.std.proofs.lemmas.List.{get_or-set_same, get_or-set_other, length-set}
-use Rattle.std.proofs.lemmas.Bool.{cases_lt, cases_eq}
+use Rattle.std.proofs.lemmas.Bool.{cases_eq}
 use Rattle.queue.specs.Queues.{Model, Bare, Emptied, Offered, lesser}
-use Rattle.queue.proofs.Scans.{same_key, not_both}
+use Rattle.queue.proofs.Keyed.{same_key, not_both}
 use Rattle.search.specs.Graphs.{Graph, Path, Lawful, unknown, here}
 use Rattle.search.specs.Searches.{cost_at}
-use Rattle.search.specs.Frontiers.{Done, Frontier, Searching, Lowers, Clears, settled}
-use Rattle.search.proofs.Lowered.{not_settled}
+use Rattle.search.specs.Frontiers.{Done, Frontier, Searching, Lowers, Clears}
 
-pub clear_none : (costs : List ℕ) → Clears costs costs 0
-clear_none costs = record { blank = λ p lt. absurd (omega arith); rest = λ p le. refl }
-
-pub clear_more : (before costs : List ℕ) (n : ℕ) → Clears before costs n → n < length costs → Clears before (set costs n unknown) (n + 1)
-clear_more before costs n c below =
-    record {
-      blank = λ p lt.
-          ⊎_elim
-          (λ h. ap (cost_at (set costs n unknown)) h ∙ get_or-set_same costs n unknown 0 below)
-          (λ h. get_or-set_other costs n p unknown 0 h ∙ c.blank p (⊎_elim (λ x. x) (λ x. let e : p ≡ n = omega arith in absurd (h e)) (cases_lt p n)))
-          (cases_eq p n);
-      rest = λ p le. get_or-set_other costs n p unknown 0 (λ same. omega arith) ∙ c.rest p (omega arith);
-    }
-
--- what a search begins with: no place is opened
-pub record Begins (g : Graph) (before costs : List ℕ) (m q : Model) : Type 0 where
-  pub searching : Searching g costs q
-  pub none : (p : ℕ) → p < g.size → settled costs q p ≡ None
-  pub size : q.size ≡ m.size
-  pub rest : (p : ℕ) → g.size ≤ p → cost_at costs p ≡ cost_at before p
-
-module _ (g : Graph) (law : Lawful g) (before costs : List ℕ) (m q : Model) (room : g.size ≤ q.size) (long : g.size ≤ length costs) (clear : Clears before costs g.size) (bare : Bare q) (size : q.size ≡ m.size) where
+-- what holds as a search begins: no place is opened
+module _ (g : Graph) (law : Lawful g) (before costs : List ℕ) (q : Model) (room : g.size ≤ q.size) (long : g.size ≤ length costs) (clear : Clears before costs g.size) (bare : Bare q) where
   -- no cost is known
   no_cost : {X : Type 0} (p : ℕ) → p < g.size → cost_at costs p < unknown → X
   no_cost p below known = let blank = clear.blank p below in absurd (omega arith)
@@ -43,35 +22,29 @@ module _ (g : Graph) (law : Lawful g) (before costs : List ℕ) (m q : Model) (r
   no_done p done = no_cost p done.below done.known
 
   -- the start has no estimate
-  pub begins_bare : g.estimate g.start ≡ None → Begins g before costs m q
+  pub begins_bare : g.estimate g.start ≡ None → Searching g costs q
   begins_bare lacks =
       record {
-        searching =
+        level = 0;
+        frontier =
             record {
-              level = 0;
-              frontier =
-                  record {
-                    room = room;
-                    long = long;
-                    bare = λ p past. bare p;
-                    most = λ p below. let blank = clear.blank p below in omega arith;
-                    paths = λ p below known. no_cost p below known;
-                    estimates = λ p below known. no_cost p below known;
-                    known = λ p k is. no_key p k is;
-                    fits = λ p k is. no_key p k is;
-                    keys = λ p k e is ee. no_key p k is;
-                    origin = λ p k is. no_key p k is;
-                    least = λ p done. no_done p done;
-                    begun = λ e ee. absurd (not_both (g.estimate g.start) e lacks ee);
-                    low = λ p e done ee. no_done p done;
-                    high = λ p k is. no_key p k is;
-                    finish = omega arith;
-                  };
-              relaxed = λ p t d e done edge ee. no_done p done;
+              room = room;
+              long = long;
+              bare = λ p past. bare p;
+              most = λ p below. let blank = clear.blank p below in omega arith;
+              paths = λ p below known. no_cost p below known;
+              estimates = λ p below known. no_cost p below known;
+              known = λ p k is. no_key p k is;
+              fits = λ p k is. no_key p k is;
+              keys = λ p k e is ee. no_key p k is;
+              origin = λ p k is. no_key p k is;
+              least = λ p done. no_done p done;
+              begun = λ e ee. absurd (not_both (g.estimate g.start) e lacks ee);
+              low = λ p e done ee. no_done p done;
+              high = λ p k is. no_key p k is;
+              finish = omega arith;
             };
-        none = λ p below. not_settled (q.key p) (cost_at costs p) (λ free. let blank = clear.blank p below in omega arith);
-        size = size;
-        rest = λ p past. clear.rest p past;
+        relaxed = λ p t d e done edge ee. no_done p done;
       }
 
   -- the start has an estimate, and waits with it
@@ -133,32 +106,24 @@ module _ (g : Graph) (law : Lawful g) (before costs : List ℕ) (m q : Model) (r
           finish = omega arith;
         }
 
-    pub begins_start : Begins g before (set costs g.start 0) m q'
+    pub begins_start : Searching g (set costs g.start 0) q'
     unfolding after
-    begins_start =
-        record {
-          searching = record { level = 0; frontier = frontier; relaxed = λ p t d e done edge ee. none_done p done };
-          none = λ p below.
-              not_settled (q'.key p) (cost_at after p) (λ free. ⊎_elim (λ h. absurd (not_both (q'.key p) s free (key p h))) (λ h. omega (arith, off p below h)) (cases_eq p g.start));
-          size = o.size ∙ size;
-          rest = λ p past.
-              get_or-set_other costs g.start p 0 0 (λ same. omega (arith, law.start)) ∙ clear.rest p past;
-        }
+    begins_start = record { level = 0; frontier = frontier; relaxed = λ p t d e done edge ee. none_done p done }
 
 -- a search that begins: the queue is emptied to q, and the costs of n places, the graph's size, are cleared
-module _ (g : Graph) (law : Lawful g) (before costs : List ℕ) (m q : Model) (n at : ℕ) (sized : n ≡ g.size) (starts : at ≡ g.start) (room : g.size ≤ m.size) (long : g.size ≤ length costs) (clear : Clears before costs n) (emptied : Emptied m q) where
+module _ {g : Graph} (law : Lawful g) {before costs : List ℕ} {m q : Model} {n at : ℕ} (sized : n ≡ g.size) (starts : at ≡ g.start) (room : g.size ≤ m.size) (long : g.size ≤ length costs) (clear : Clears before costs n) (emptied : Emptied m q) where
   cleared : Clears before costs g.size
   cleared = subst (λ (x : ℕ). Clears before costs x) sized clear
 
   -- without an estimate of the start nothing waits
-  pub begun_bare : None ≡ g.estimate at → Begins g before costs m q
+  pub begun_bare : None ≡ g.estimate at → Searching g costs q
   begun_bare lacks =
-      begins_bare g law before costs m q (omega (arith, emptied.size)) long cleared emptied.bare emptied.size (ap g.estimate (sym starts) ∙ sym lacks)
+      begins_bare g law before costs q (omega (arith, emptied.size)) long cleared emptied.bare (ap g.estimate (sym starts) ∙ sym lacks)
 
   -- the start is offered at cost 0
-  pub begun_start : (s : ℕ) → Some s ≡ g.estimate at → s ≤ unknown → (after : List ℕ) (q' : Model) → Lowers costs after q q' at 0 s → Begins g before after m q'
-  begun_start s es fits after q' l =
+  pub begun_start : {s : ℕ} → Some s ≡ g.estimate at → s ≤ unknown → {after : List ℕ} {q' : Model} → Lowers costs after q q' at 0 s → Searching g after q'
+  begun_start {s} es fits {after} {q'} l =
       let here_lowers : Lowers costs after q q' g.start 0 s = subst (λ (x : ℕ). Lowers costs after q q' x 0 s) starts l in
       let blank = cleared.blank g.start law.start in
       let w = here_lowers.less (omega arith) in
-      subst (λ (x : List ℕ). Begins g before x m q') (sym w.0) (begins_start g law before costs m q (omega (arith, emptied.size)) long cleared emptied.bare emptied.size s (ap g.estimate (sym starts) ∙ sym es) fits q' w.1)
+      subst (λ (x : List ℕ). Searching g x q') (sym w.0) (begins_start g law before costs q (omega (arith, emptied.size)) long cleared emptied.bare s (ap g.estimate (sym starts) ∙ sym es) fits q' w.1)

@@ -2,11 +2,11 @@
 use Rattle.std.proofs.Common.{◌≡◌, ℕ, ◌+◌, ◌<◌, ◌≤◌, ltb, List, Some, None, Option, sym, ap, ◌∙◌, subst, inl, inr, ⊎_elim, arith}
 use Rattle.std.proofs.lemmas.Bool.{cases_lt, cond-true, lt-ltb}
 use Rattle.queue.specs.Queues.{Model, tally, held_count}
-use Rattle.queue.proofs.Scans.{not_both}
+use Rattle.queue.proofs.Keyed.{not_both}
 use Rattle.search.specs.Graphs.{Graph, Path, LeastCost, Lawful, NoPath, unknown}
 use Rattle.search.specs.Searches.{cost_at, Within, Opened, Reached, Waiting, Outcome, Leaves, Counted, IsOpened, IsWaiting, Finds, opened, waiting, neither}
-use Rattle.search.specs.Frontiers.{Done, Frontier, Searching, NoneWithin, settled, settled_at}
-use Rattle.search.proofs.Ahead.{ahead, known_cases, cases_key, estimate_most}
+use Rattle.search.specs.Frontiers.{Done, Frontier, Searching, KeepsBeyond, NoneWithin, settled, settled_at}
+use Rattle.search.proofs.Ahead.{ahead, known_cases, none_or_some, estimate_most}
 use Rattle.search.proofs.Lowered.{not_settled}
 use Rattle.search.proofs.Counting.{counted, Tells, tally_past}
 
@@ -21,7 +21,7 @@ pub record Ends (g : Graph) (costs : List ℕ) (q : Model) (limit : Option ℕ) 
   pub within : (p e : ℕ) → Done g costs q p → g.estimate p ≡ Some e → Within limit (cost_at costs p + e)
   pub start : (e : ℕ) → g.estimate g.start ≡ Some e → Within limit e
 
-module _ (g : Graph) (law : Lawful g) (costs : List ℕ) (q : Model) (s : Searching g costs q) where
+module _ {g : Graph} (law : Lawful g) {costs : List ℕ} {q : Model} (s : Searching g costs q) where
   f : Frontier g costs q s.level
   f = s.frontier
 
@@ -31,7 +31,7 @@ module _ (g : Graph) (law : Lawful g) (costs : List ℕ) (q : Model) (s : Search
       ⊎_elim
       (λ h. omega (arith, h.0.known))
       (λ h. omega (arith, over h.0 h.1 h.2, f.fits h.0 h.1 h.2))
-      (ahead g law costs q s.level f s.relaxed path 0 law.nearest)
+      (ahead law f s.relaxed path 0 law.nearest)
 
   pub ended_none : cost_at costs g.finish ≡ unknown → NoneWithin q (cost_at costs g.finish) → Ends g costs q None
   ended_none no_cost over =
@@ -49,7 +49,7 @@ module _ (g : Graph) (law : Lawful g) (costs : List ℕ) (q : Model) (s : Search
       (λ h.
       let sum = f.keys g.finish h.0 0 h.1 law.nearest in
       absurd (omega (arith, over g.finish h.0 h.1)))
-      (known_cases g law costs q s.level f g.finish law.finish known)
+      (known_cases law f g.finish law.finish known)
 
   pub ended_some : cost_at costs g.finish < unknown → NoneWithin q (cost_at costs g.finish) → Ends g costs q (Some (cost_at costs g.finish))
   ended_some known over =
@@ -57,18 +57,18 @@ module _ (g : Graph) (law : Lawful g) (costs : List ℕ) (q : Model) (s : Search
         over = λ p k is in_it. omega (arith, over p k is);
         within = λ p e done ee. omega (arith, f.low p e done ee, f.finish);
         start = λ e ee.
-            let most = estimate_most g law e ee (f.paths g.finish law.finish known) 0 law.nearest in
+            let most = estimate_most law e ee (f.paths g.finish law.finish known) 0 law.nearest in
             omega arith;
       }
 
-  module _ (limit : Option ℕ) (end : Ends g costs q limit) where
+  module _ {limit : Option ℕ} (end : Ends g costs q limit) where
     -- a path within the limit leads to a place that the search opened
     reaches : (p c e : ℕ) → Path g p c → g.estimate p ≡ Some e → Within limit (c + e) → Done g costs q p × (cost_at costs p ≤ c)
     reaches p c e path ee in_it =
         ⊎_elim
         (λ h. h)
         (λ h. absurd (end.over h.0 h.1 h.2 (within_less limit h.1 (c + e) h.3 in_it)))
-        (ahead g law costs q s.level f s.relaxed path e ee)
+        (ahead law f s.relaxed path e ee)
 
     opened_done : (p c e : ℕ) → Opened g limit p c e → Done g costs q p
     opened_done p c e o = (reaches p c e o.least.path o.estimate o.within).0
@@ -138,7 +138,7 @@ module _ (g : Graph) (law : Lawful g) (costs : List ℕ) (q : Model) (s : Search
 
     unknown_free : (p : ℕ) → unknown ≤ cost_at costs p → q.key p ≡ None
     unknown_free p past =
-        ⊎_elim (λ h. h) (λ h. absurd (omega (arith, f.known p h.0 h.1))) (cases_key (q.key p))
+        ⊎_elim (λ h. h) (λ h. absurd (omega (arith, f.known p h.0 h.1))) (none_or_some (q.key p))
 
     outcome : (p : ℕ) → p < g.size → Outcome g limit p (cost_at costs p) (q.key p)
     outcome p below =
@@ -150,21 +150,21 @@ module _ (g : Graph) (law : Lawful g) (costs : List ℕ) (q : Model) (s : Search
         (λ h.
         let sum = f.keys p h.0 x.0 h.1 x.1 in
         subst (λ (o : Option ℕ). Outcome g limit p (cost_at costs p) o) (sym (h.1 ∙ ap Some sum)) (waiting (held_waiting p h.0 x.0 h.1 x.1)))
-        (known_cases g law costs q s.level f p below known))
+        (known_cases law f p below known))
         (λ past.
         let is : cost_at costs p ≡ unknown = omega (arith, f.most p below) in
         subst (λ (o : Option ℕ). Outcome g limit p (cost_at costs p) o) (sym (unknown_free p past)) (subst (λ (c : ℕ). Outcome g limit p c None) (sym is) (neither (unknown_opened p past) (unknown_waiting p past))))
         (cases_lt (cost_at costs p) unknown)
 
-    pub leaves : (m : Model) (before : List ℕ) → q.size ≡ m.size → ((p : ℕ) → g.size ≤ p → cost_at costs p ≡ cost_at before p) → Leaves g limit m q before costs
-    leaves m before size rest =
+    pub leaves : {m : Model} {before : List ℕ} → KeepsBeyond g before costs m q → Leaves g limit m q before costs
+    leaves beyond =
         record {
           places = outcome;
           whole = λ p c e path ee in_it.
               (cost_at costs p, done_opened p e (reaches p c e path ee in_it).0 ee);
           bare = f.bare;
-          rest = rest;
-          size = size;
+          rest = beyond.rest;
+          size = beyond.size;
         }
 
     tells_opened : (p : ℕ) → p < g.size → Tells (IsOpened g limit p) (settled costs q p)
@@ -178,7 +178,7 @@ module _ (g : Graph) (law : Lawful g) (costs : List ℕ) (q : Model) (s : Search
         let is : settled_at None (cost_at costs p) ≡ Some (cost_at costs p) = cond-true (ltb (cost_at costs p) unknown) (Some (cost_at costs p)) None (lt-ltb (cost_at costs p) unknown known) in
         inl ((cost_at costs p, x.0, done_opened p x.0 done x.1), cost_at costs p, free ∙ is))
         (λ h. inr (λ o. held_unopened p h.0 o.0 o.1 h.1 o.2, ap (λ (o : Option ℕ). settled_at o (cost_at costs p)) h.1))
-        (known_cases g law costs q s.level f p below known))
+        (known_cases law f p below known))
         (λ past. inr (λ o. unknown_opened p past o.0 o.1 o.2, not_settled (q.key p) (cost_at costs p) (λ free. past)))
         (cases_lt (cost_at costs p) unknown)
 
@@ -190,7 +190,7 @@ module _ (g : Graph) (law : Lawful g) (costs : List ℕ) (q : Model) (s : Search
         ⊎_elim
         (λ done. inr (λ w. w.2.unopened (cost_at costs p) x.0 (done_opened p x.0 done x.1), done.free))
         (λ h. inl ((cost_at costs p, x.0, held_waiting p h.0 x.0 h.1 x.1), h.0, h.1))
-        (known_cases g law costs q s.level f p below known))
+        (known_cases law f p below known))
         (λ past. inr (λ w. unknown_waiting p past w.0 w.1 w.2, unknown_free p past))
         (cases_lt (cost_at costs p) unknown)
 
@@ -203,8 +203,8 @@ module _ (g : Graph) (law : Lawful g) (costs : List ℕ) (q : Model) (s : Search
         subst (λ (x : ℕ). Counted (IsWaiting g limit) g.size x) (sym (e ∙ tally_past q.key g.size q.size f.room f.bare)) (counted (IsWaiting g limit) q.key g.size tells_waiting)
 
   -- the answer where the cost of the finish is known
-  pub finds : (at n k : ℕ) → at ≡ g.finish → (cost_at costs at ≡ unknown → ⊥) → NoneWithin q (cost_at costs g.finish) → n ≡ tally (settled costs q) g.size → k ≡ held_count q → (NoPath g → ⊥) × Finds g (record { limit = cost_at costs at; opened = n; waiting = k }) × Ends g costs q (Some (cost_at costs at))
-  finds at n k e some over en ek =
+  pub finds : {at n k : ℕ} → at ≡ g.finish → (cost_at costs at ≡ unknown → ⊥) → NoneWithin q (cost_at costs g.finish) → n ≡ tally (settled costs q) g.size → k ≡ held_count q → (NoPath g → ⊥) × Finds g (record { limit = cost_at costs at; opened = n; waiting = k }) × Ends g costs q (Some (cost_at costs at))
+  finds {at} {n} {k} e some over en ek =
       let same : cost_at costs at ≡ cost_at costs g.finish = ap (cost_at costs) e in
       let known : cost_at costs g.finish < unknown =
       ⊎_elim (λ h. h) (λ h. let is : cost_at costs at ≡ unknown = omega (arith, f.most g.finish law.finish) in absurd (some is)) (cases_lt (cost_at costs g.finish) unknown) in
@@ -213,8 +213,8 @@ module _ (g : Graph) (law : Lawful g) (costs : List ℕ) (q : Model) (s : Search
         λ lacks. lacks (cost_at costs g.finish) least.path,
         record {
           limit = subst (λ (c : ℕ). LeastCost g g.finish c) (sym same) least;
-          opened = counts_opened (Some (cost_at costs at)) end n en;
-          waiting = counts_waiting (Some (cost_at costs at)) end k ek;
+          opened = counts_opened end n en;
+          waiting = counts_waiting end k ek;
         },
         end,
       )

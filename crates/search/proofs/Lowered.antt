@@ -3,24 +3,23 @@ use Rattle.std.proofs.Common.{◌≡◌, ℕ, ◌+◌, ◌<◌, ◌≤◌, ltb, 
 use Rattle.std.proofs.lemmas.List.{get_or-set_same, get_or-set_other, length-set}
 use Rattle.std.proofs.lemmas.Bool.{cases_lt, cases_eq, cond-false, le-ltb}
 use Rattle.queue.specs.Queues.{Model, Offered, lesser}
-use Rattle.queue.proofs.Scans.{same_key, not_both}
+use Rattle.queue.proofs.Keyed.{same_key, not_both}
 use Rattle.search.specs.Graphs.{Graph, Path, LeastCost, Lawful, unknown, nth, guess, on}
 use Rattle.search.specs.Searches.{cost_at}
-use Rattle.search.specs.Frontiers.{Done, CostFrom, Frontier, Relaxing, Searching, Keeps, Lowers, key_at, settled, settled_at}
+use Rattle.search.specs.Frontiers.{Done, CostFrom, Frontier, Relaxing, Searching, Keeps, KeepsBeyond, Lowers, key_at, settled, settled_at}
 use Rattle.search.proofs.Ahead.{nth_below, same_edge}
 
 -- nothing changes
-pub keeps_same : (g : Graph) (costs : List ℕ) (q : Model) → Keeps g costs costs q q
-keeps_same g costs q = record { size = refl; opened = λ p lt. refl; rest = λ p le. refl }
+pub keeps_same : {g : Graph} {costs : List ℕ} {q : Model} → Keeps g costs costs q q
+keeps_same = record { beyond = record { size = refl; rest = λ p le. refl }; opened = λ p lt. refl }
 
 -- one change after another
-pub keeps_both : (g : Graph) (a b c : List ℕ) (m q r : Model) → Keeps g a b m q → Keeps g b c q r → Keeps g a c m r
-keeps_both g a b c m q r k l =
-    record {
-      size = l.size ∙ k.size;
-      opened = λ p lt. l.opened p lt ∙ k.opened p lt;
-      rest = λ p le. l.rest p le ∙ k.rest p le;
-    }
+pub beyond_both : {g : Graph} {a b c : List ℕ} {m q r : Model} → KeepsBeyond g a b m q → KeepsBeyond g b c q r → KeepsBeyond g a c m r
+beyond_both k l = record { size = l.size ∙ k.size; rest = λ p le. l.rest p le ∙ k.rest p le }
+
+pub keeps_both : {g : Graph} {a b c : List ℕ} {m q r : Model} → Keeps g a b m q → Keeps g b c q r → Keeps g a c m r
+keeps_both k l =
+    record { beyond = beyond_both k.beyond l.beyond; opened = λ p lt. l.opened p lt ∙ k.opened p lt }
 
 -- the key after an offer of no more than a place has
 pub lesser_is : (o : Option ℕ) (key : ℕ) → ((had : ℕ) → o ≡ Some had → key ≤ had) → lesser o key ≡ key
@@ -32,7 +31,7 @@ pub not_settled : (o : Option ℕ) (c : ℕ) → (o ≡ None → unknown ≤ c) 
 not_settled None c h = cond-false (ltb c unknown) (Some c) None (le-ltb c unknown (h refl))
 not_settled (Some k) c h = refl
 
-module _ (g : Graph) (costs : List ℕ) (q : Model) (place n : ℕ) (r : Relaxing g costs q place n) where
+module _ {g : Graph} {costs : List ℕ} {q : Model} {place n : ℕ} (r : Relaxing g costs q place n) where
   -- the next edge has nothing to lower
   pub relaxed_more : ((t d e : ℕ) → nth (g.edges place) n ≡ Some (t, d) → g.estimate t ≡ Some e → cost_at costs t ≤ cost_at costs place + d) → Relaxing g costs q place (n + 1)
   relaxed_more low =
@@ -68,15 +67,12 @@ module _ (g : Graph) (costs : List ℕ) (q : Model) (place n : ℕ) (r : Relaxin
       }
 
 -- the cost of the place t is lowered, and it is offered
-module _ (g : Graph) (law : Lawful g) (costs : List ℕ) (q : Model) (place n : ℕ) (r : Relaxing g costs q place n) (t d e : ℕ) (at_edge : Some (t, d) ≡ nth (g.edges place) n) (at_end : Some e ≡ g.estimate t) where
+module _ {g : Graph} (law : Lawful g) {costs : List ℕ} {q : Model} {place n : ℕ} (r : Relaxing g costs q place n) {t d e : ℕ} (at_edge : Some (t, d) ≡ nth (g.edges place) n) (at_end : Some e ≡ g.estimate t) where
   edge : nth (g.edges place) n ≡ Some (t, d)
   edge = sym at_edge
 
   ee : g.estimate t ≡ Some e
   ee = sym at_end
-
-  total : ℕ
-  total = cost_at costs place + d
 
   bound : cost_at costs place + d + guess (g.estimate t) < unknown
   bound = law.bounded place t (cost_at costs place) d (r.frontier.least place r.done) (n, edge)
@@ -279,7 +275,7 @@ module _ (g : Graph) (law : Lawful g) (costs : List ℕ) (q : Model) (place n : 
     unfolding after
     lowered_keeps =
         record {
-          size = o.size;
+          beyond = record { size = o.size; rest = λ p past. off p (λ same. omega (arith, inside)) };
           opened = λ p below.
               ⊎_elim
               (λ h.
@@ -288,12 +284,11 @@ module _ (g : Graph) (law : Lawful g) (costs : List ℕ) (q : Model) (place n : 
               new ∙ sym old)
               (λ h. ap (λ (x : Option ℕ). settled_at x (cost_at after p)) (o.others p h) ∙ ap (λ (x : ℕ). settled_at (q.key p) x) (off p h))
               (cases_eq p t);
-          rest = λ p past. off p (λ same. omega (arith, inside));
         }
 
   -- after an edge to a place with an estimate
-  pub relaxed_edge : (end : List ℕ) (q' : Model) → Lowers costs end q q' t (cost_at costs place + d) e → Relaxing g end q' place (n + 1) × Keeps g costs end q q'
-  relaxed_edge end q' l =
+  pub relaxed_edge : {end : List ℕ} {q' : Model} → Lowers costs end q q' t (cost_at costs place + d) e → Relaxing g end q' place (n + 1) × Keeps g costs end q q'
+  relaxed_edge {end} {q'} l =
       ⊎_elim
       (λ h.
       let w = l.less h in
@@ -305,5 +300,5 @@ module _ (g : Graph) (law : Lawful g) (costs : List ℕ) (q : Model) (place n : 
       let same_cost = (same_edge (nth (g.edges place) n) t d u c edge next).1 in
       let same : cost_at costs u ≡ cost_at costs t = ap (cost_at costs) (sym same_place) in
       omega arith in
-      (subst (λ (y : Model). Relaxing g end y place (n + 1)) (sym w.1) (subst (λ (x : List ℕ). Relaxing g x q place (n + 1)) (sym w.0) (relaxed_more g costs q place n r low)), subst (λ (y : Model). Keeps g costs end q y) (sym w.1) (subst (λ (x : List ℕ). Keeps g costs x q q) (sym w.0) (keeps_same g costs q))))
+      (subst (λ (y : Model). Relaxing g end y place (n + 1)) (sym w.1) (subst (λ (x : List ℕ). Relaxing g x q place (n + 1)) (sym w.0) (relaxed_more r low)), subst (λ (y : Model). Keeps g costs end q y) (sym w.1) (subst (λ (x : List ℕ). Keeps g costs x q q) (sym w.0) (keeps_same))))
       (cases_lt (cost_at costs place + d) (cost_at costs t))

@@ -1,11 +1,12 @@
 -- A least cost is at most the cost of the dearest edge for each place: a path that comes to a place twice can leave out
 -- what lies between.
-use Rattle.std.proofs.Common.{◌≡◌, ℕ, ◌+◌, ◌*◌, ◌<◌, ◌≤◌, cond, eqb, ◌⊎◌, Some, None, Option, sym, refl, ap, ◌∙◌, subst, inl, inr, ⊎_elim, mul-one, mul-add, arith}
+use Rattle.std.proofs.Common.{◌≡◌, ℕ, ◌+◌, ◌*◌, ◌<◌, ◌≤◌, cond, eqb, Some, None, Option, sym, refl, ap, ◌∙◌, subst, ⊎_elim, mul-one, mul-add, arith}
 use Rattle.std.proofs.lemmas.Nat.{mul-le}
 use Rattle.std.proofs.lemmas.Bool.{cases_eq, eq-eqb, ne_eqb, cond-true, cond-false}
 use Rattle.queue.specs.Queues.{tally, one}
 use Rattle.queue.proofs.Tallies.{tally-set, tally_most}
 use Rattle.search.specs.Graphs.{Graph, Edge, Path, LeastCost, here, on}
+use Rattle.search.proofs.Ahead.{none_or_some}
 
 -- the places that are marked so far, and one more
 abbrev mark : (ℕ → Option ℕ) → ℕ → ℕ → Option ℕ
@@ -30,7 +31,7 @@ cut : (g : Graph) {f : ℕ → Option ℕ} {p c : ℕ} → Trail g f p c → (q 
 cut g begin q k e =
     ⊎_elim
     (λ h. subst (λ (x : ℕ). TrailTo g x) (sym h) (mark (λ p. None) g.start, 0, begin))
-    (λ h. let blank = mark_other (λ p. None) g.start q h in let z : ◌≡◌ {A = ℕ} 0 1 = cc in absurd (omega arith))
+    (λ h. let blank = mark_other (λ p. None) g.start q h in absurd (cc))
     (cases_eq q g.start)
 cut g (more {f = f} {p = p} {q = r} {c = c} {d = d} trail edge free) q k e =
     ⊎_elim
@@ -42,10 +43,6 @@ trail_path : (g : Graph) {f : ℕ → Option ℕ} {p c : ℕ} → Trail g f p c 
 trail_path g begin = here
 trail_path g (more trail edge free) = on (trail_path g trail) edge
 
-known : (o : Option ℕ) → (o ≡ None) ⊎ ((k : ℕ) × (o ≡ Some k))
-known None = inl refl
-known (Some k) = inr (k, refl)
-
 -- each path can be cut to a trail
 trail_of : (g : Graph) {p c : ℕ} → Path g p c → TrailTo g p
 trail_of g here = (mark (λ p. None) g.start, 0, begin)
@@ -54,7 +51,7 @@ trail_of g (on {p} {q} {c} {d} path edge) =
     ⊎_elim
     (λ free. (mark before.0 q, before.1 + d, more before.2 edge free))
     (λ s. cut g before.2 q s.0 s.1)
-    (known (before.0 q))
+    (none_or_some (before.0 q))
 
 module _ (g : Graph) (dearest : ℕ) (inside : (p q c : ℕ) → Edge g p q c → q < g.size) (dear : (p q c : ℕ) → Edge g p q c → c ≤ dearest) where
   trail_cost : {f : ℕ → Option ℕ} {p c : ℕ} → Trail g f p c → c ≤ dearest * tally f g.size

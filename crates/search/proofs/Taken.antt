@@ -1,52 +1,38 @@
 -- What holds when the place with the least key is opened, and how many places are opened so far.
-use Rattle.std.proofs.Common.{◌≡◌, ℕ, ◌+◌, ◌<◌, ◌≤◌, ltb, List, Some, None, Option, sym, ap, ◌∙◌, subst, inl, inr, ⊎_elim, arith}
+use Rattle.std.proofs.Common.{◌≡◌, ℕ, ◌+◌, ◌<◌, ◌≤◌, ltb, List, Some, None, Option, sym, refl, ap, ◌∙◌, subst, inl, inr, ⊎_elim, arith}
 use Rattle.std.proofs.lemmas.Bool.{cases_eq, cond-true, lt-ltb}
-use Rattle.queue.specs.Queues.{Model, Sets, Least, Looked, Taken, tally, one}
-use Rattle.queue.proofs.Scans.{not_both}
+use Rattle.queue.specs.Queues.{Model, Sets, Least, tally, one}
+use Rattle.queue.proofs.Keyed.{not_both}
 use Rattle.queue.proofs.Tallies.{tally-set, tally_same, tally_room}
 use Rattle.search.specs.Graphs.{Graph, Path, LeastCost, Lawful, unknown, guess}
 use Rattle.search.specs.Searches.{cost_at}
-use Rattle.search.specs.Frontiers.{Done, Frontier, Relaxing, Searching, Keeps, TakesWithin, NoneWithin, key_at, settled, settled_at}
+use Rattle.search.specs.Frontiers.{Done, Frontier, Relaxing, Searching, Keeps, KeepsBeyond, Takes, key_at, settled, settled_at}
 use Rattle.search.proofs.Ahead.{ahead, held_inside}
+use Rattle.search.proofs.Lowered.{beyond_both}
 
--- a take lets go of the place that a look answers
-pub take_least : (m q : Model) (r : Option (ℕ × ℕ)) (k p : ℕ) → Looked m r → Taken m q r → Least m k p → Sets m q p None
-take_least m q None k p looked taken l = absurd (not_both (m.key p) k (looked p) l.here)
-take_least m q (Some a) k p looked taken l =
-    let up = l.least a.1 a.0 looked.here in
-    let down = looked.least p k l.here in
-    let same : a.0 ≡ k = omega arith in
-    let high = l.lowest a.1 (looked.here ∙ ap Some same) in
-    let low = looked.lowest p (l.here ∙ ap Some (sym same)) in
-    let place : a.1 ≡ p = omega arith in
-    subst (λ (x : ℕ). Sets m q x None) place taken
-
-module _ (g : Graph) (law : Lawful g) (costs : List ℕ) (m q : Model) (place : ℕ) (s : Searching g costs m) (t : TakesWithin m q (cost_at costs g.finish) (Some place)) where
+module _ {g : Graph} (law : Lawful g) {costs : List ℕ} {m q : Model} {place bound : ℕ} (s : Searching g costs m) (t : Takes m q bound place) (finish : bound ≡ cost_at costs g.finish) where
   f : Frontier g costs m s.level
   f = s.frontier
 
-  key : ℕ
-  key = t.0
-
-  l : Least m t.0 place
-  l = t.1
+  l : Least m t.key place
+  l = t.least
 
   w : Sets m q place None
-  w = t.3
+  w = t.sets
 
   below : place < g.size
-  below = held_inside g law costs m s.level f place t.0 l.here
+  below = held_inside law f place t.key l.here
 
   known : cost_at costs place < unknown
-  known = f.known place t.0 l.here
+  known = f.known place t.key l.here
 
   guessed : (e : ℕ) × (g.estimate place ≡ Some e)
   guessed = f.estimates place below known
 
   -- the key of the place
-  is_key : t.0 ≡ key_at g costs place
+  is_key : t.key ≡ key_at g costs place
   is_key =
-      let sum = f.keys place t.0 guessed.0 l.here guessed.1 in
+      let sum = f.keys place t.key guessed.0 l.here guessed.1 in
       let is : guess (g.estimate place) ≡ guessed.0 = ap guess guessed.1 in
       omega arith
 
@@ -66,19 +52,19 @@ module _ (g : Graph) (law : Lawful g) (costs : List ℕ) (m q : Model) (place : 
       record {
         below = done.below;
         known = done.known;
-        free = w.others p (λ same. not_both (m.key place) t.0 (ap m.key (sym same) ∙ done.free) l.here) ∙ done.free;
+        free = w.others p (λ same. not_both (m.key place) t.key (ap m.key (sym same) ∙ done.free) l.here) ∙ done.free;
       }
 
   -- the place costs no more than any path to it
   least : (d : ℕ) → Path g place d → cost_at costs place ≤ d
   least d path =
       ⊎_elim
-      (λ h. absurd (not_both (m.key place) t.0 h.0.free l.here))
+      (λ h. absurd (not_both (m.key place) t.key h.0.free l.here))
       (λ h.
       let up = l.least h.0 h.1 h.2 in
-      let sum = f.keys place t.0 guessed.0 l.here guessed.1 in
+      let sum = f.keys place t.key guessed.0 l.here guessed.1 in
       omega (arith, h.3))
-      (ahead g law costs m s.level f s.relaxed path guessed.0 guessed.1)
+      (ahead law f s.relaxed path guessed.0 guessed.1)
 
   pub taken_relaxing : Relaxing g costs q place 0
   taken_relaxing =
@@ -112,10 +98,10 @@ module _ (g : Graph) (law : Lawful g) (costs : List ℕ) (m q : Model) (place : 
                   let at : cost_at costs p ≡ cost_at costs place = ap (cost_at costs) h in
                   let is : guess (g.estimate place) ≡ e = ap guess (ap g.estimate (sym h) ∙ ee) in
                   omega arith)
-                  (λ h. omega (arith, f.low p e (was p done h) ee, f.high place t.0 l.here, is_key))
+                  (λ h. omega (arith, f.low p e (was p done h) ee, f.high place t.key l.here, is_key))
                   (cases_eq p place);
               high = λ p k is. omega (arith, l.least p k (held p k is), is_key);
-              finish = omega (arith, t.2, is_key);
+              finish = omega (arith, t.within, finish, is_key);
             };
         done = record { below = below; known = known; free = w.here };
         relaxed = λ p i u d e done edge upto ee.
@@ -143,35 +129,19 @@ module _ (g : Graph) (law : Lawful g) (costs : List ℕ) (m q : Model) (place : 
       let after : one (settled costs q place) ≡ 1 = ap one (now_free ∙ now_known) in
       omega arith
 
-  pub taken_size : q.size ≡ m.size
-  taken_size = w.size
-
 -- a search on its way, from the costs and the queue it began with
 pub record Running (g : Graph) (before costs : List ℕ) (first m : Model) (opened : ℕ) : Type 0 where
   pub searching : Searching g costs m
   pub count : opened ≡ tally (settled costs m) g.size
-  pub size : m.size ≡ first.size
-  pub rest : (p : ℕ) → g.size ≤ p → cost_at costs p ≡ cost_at before p
+  pub beyond : KeepsBeyond g before costs first m
 
-pub running_more : (g : Graph) → Lawful g → (before costs after : List ℕ) (first m q r : Model) (opened next place : ℕ) → Running g before costs first m opened → TakesWithin m q (cost_at costs g.finish) (Some place) → Searching g after r → Keeps g costs after q r → next ≡ opened + 1 → Running g before after first r next
-running_more g law before costs after first m q r opened next place run t s k e =
+pub running_more : {g : Graph} → Lawful g → {before costs after : List ℕ} {first m q r : Model} {opened next place bound : ℕ} → Running g before costs first m opened → Takes m q bound place → bound ≡ cost_at costs g.finish → Searching g after r → Keeps g costs after q r → next ≡ opened + 1 → Running g before after first r next
+running_more {g} law {before} {costs} {after} {first} {m} {q} {r} run t finish s k e =
     record {
       searching = s;
       count =
           let same = tally_same (settled costs q) (settled after r) g.size (λ p below. k.opened p below) in
-          let more = count_taken g law costs m q place run.searching t in
+          let more = count_taken law run.searching t finish in
           omega (arith, run.count);
-      size = k.size ∙ taken_size g law costs m q place run.searching t ∙ run.size;
-      rest = λ p past. k.rest p past ∙ run.rest p past;
+      beyond = beyond_both run.beyond (beyond_both (record { size = t.sets.size; rest = λ p past. refl }) k.beyond);
     }
-
--- the bound is the cost of the finish
-pub takes_at : (g : Graph) (costs : List ℕ) (m q : Model) (at place : ℕ) → at ≡ g.finish → TakesWithin m q (cost_at costs at) (Some place) → TakesWithin m q (cost_at costs g.finish) (Some place)
-takes_at g costs m q at place e t = subst (λ (x : ℕ). TakesWithin m q (cost_at costs x) (Some place)) e t
-
--- nothing more is within the bound
-pub running_ends : (g : Graph) (before costs : List ℕ) (first m q : Model) (opened at : ℕ) → Running g before costs first m opened → at ≡ g.finish → TakesWithin m q (cost_at costs at) None → Running g before costs first q opened × NoneWithin q (cost_at costs g.finish)
-running_ends g before costs first m q opened at run e t = (
-  subst (λ (x : Model). Running g before costs first x opened) (sym t.0) run,
-  subst (λ (x : Model). NoneWithin x (cost_at costs g.finish)) (sym t.0) (subst (λ (x : ℕ). NoneWithin m (cost_at costs x)) e t.1),
-)

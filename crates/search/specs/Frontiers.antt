@@ -72,11 +72,19 @@ settled_at (Some k) c = None
 abbrev pub settled : List ℕ → Model → ℕ → Option ℕ
 settled costs q p = settled_at (q.key p) (cost_at costs p)
 
+-- no place is opened so far
+abbrev pub NoneOpened : Graph → List ℕ → Model → Type 0
+NoneOpened g costs q = (p : ℕ) → p < g.size → settled costs q p ≡ None
+
+-- all that lies beyond the graph stays: the queue's size, and the costs of what is no place
+pub record KeepsBeyond (g : Graph) (costs after : List ℕ) (m q : Model) : Type 0 where
+  pub size : q.size ≡ m.size
+  pub rest : (p : ℕ) → g.size ≤ p → cost_at after p ≡ cost_at costs p
+
 -- what relaxing keeps: the opened places with their costs, and all that lies beyond the graph
 pub record Keeps (g : Graph) (costs after : List ℕ) (m q : Model) : Type 0 where
-  pub size : q.size ≡ m.size
+  pub beyond : KeepsBeyond g costs after m q
   pub opened : (p : ℕ) → p < g.size → settled after q p ≡ settled costs m p
-  pub rest : (p : ℕ) → g.size ≤ p → cost_at after p ≡ cost_at costs p
 
 -- a cost is lowered and the place offered, if the new cost is less
 pub record Lowers (costs after : List ℕ) (m q : Model) (place cost estimate : ℕ) : Type 0 where
@@ -87,10 +95,22 @@ pub record Lowers (costs after : List ℕ) (m q : Model) (place cost estimate : 
 abbrev pub NoneWithin : Model → ℕ → Type 0
 NoneWithin q bound = (p k : ℕ) → q.key p ≡ Some k → bound < k
 
+-- the place with the least key is taken, and that key is within a bound
+pub record Takes (m q : Model) (bound place : ℕ) : Type 0 where
+  pub key : ℕ
+  pub least : Least m key place
+  pub within : key ≤ bound
+  pub sets : Sets m q place None
+
+-- nothing is taken, as no key is within a bound
+pub record TakesNone (m q : Model) (bound : ℕ) : Type 0 where
+  pub same : q ≡ m
+  pub none : NoneWithin q bound
+
 -- what is taken from a queue while the least key is within a bound
 abbrev pub TakesWithin : Model → Model → ℕ → Option ℕ → Type 0
-TakesWithin m q bound None = (q ≡ m) × NoneWithin m bound
-TakesWithin m q bound (Some place) = (k : ℕ) × Least m k place × (k ≤ bound) × Sets m q place None
+TakesWithin m q bound None = TakesNone m q bound
+TakesWithin m q bound (Some place) = Takes m q bound place
 
 -- the first n costs are unknown, and the others as before
 pub record Clears (before after : List ℕ) (n : ℕ) : Type 0 where

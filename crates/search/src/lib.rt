@@ -6,13 +6,13 @@ ghost use Rattle.refusal.specs.Checks.{Judged};
 ghost use Rattle.queue.specs.Queues.{tally};
 ghost use Rattle.search.specs.Graphs.{Graph, Lawful, unknown, nth};
 ghost use Rattle.search.specs.Searches.{Leaves, Finds, Refused, search_checks, by_search, cost_at};
-ghost use Rattle.search.specs.Frontiers.{Relaxing, Searching, Keeps, Lowers, TakesWithin, NoneWithin, Clears, settled};
+ghost use Rattle.search.specs.Frontiers.{Relaxing, Searching, NoneOpened, Keeps, KeepsBeyond, Lowers, TakesWithin, NoneWithin, Clears, settled};
 
 use queue::Queue;
 use refusal::SearchFault;
 
-// What the costs hold for a place whose cost is not known.
-const UNKNOWN: u32 = 4294967295;
+// What the costs hold for a place whose cost is not known: by rule they are lent as plain numbers.
+const UNKNOWN: u32 = u32::MAX;
 
 // A map is a graph: places from 0 to its size less 1, edges from place to place with their costs, a start, a finish,
 // and at each place an estimate of what is left to the finish, or none.
@@ -62,9 +62,7 @@ fn clear(costs: &mut [u32], count: usize)
     requires room { count ≤ length costs.old }
     ensures cleared { Clears costs.old costs.new count }
 {
-    for i in 0..count {
-        costs[i] = UNKNOWN;
-    }
+    costs[..count].fill(UNKNOWN);
 }
 
 // Gives a place a cost that is less than the one it has, and offers it with the sum of that and its estimate.
@@ -81,6 +79,7 @@ fn lower<Q: Queue>(queue: &mut Q, costs: &mut [u32], place: usize, cost: u32, es
 }
 
 // Relaxes one edge of the place that was opened last.
+// No struct of map, queue and costs: each of its methods would also have to ensure that it keeps what was lent.
 fn relax_edge<M: Map, Q: Queue>(
     map: &M,
     queue: &mut Q,
@@ -92,10 +91,10 @@ fn relax_edge<M: Map, Q: Queue>(
     ensures relaxing { Relaxing (M.graph map.now) costs.new (Q.model queue.new) place (index + 1) }
     ensures keeps { Keeps (M.graph map.now) costs.old costs.new (Q.model queue.old) (Q.model queue.new) }
 {
-    if let Some(edge) = map.edge(place, index) {
-        if let Some(estimate) = map.estimate(edge.0) {
-            let cost = costs[place] + edge.1;
-            lower(queue, costs, edge.0, cost, estimate);
+    if let Some((to, edge_cost)) = map.edge(place, index) {
+        if let Some(estimate) = map.estimate(to) {
+            let cost = costs[place] + edge_cost;
+            lower(queue, costs, to, cost, estimate);
         }
     }
 }
@@ -106,6 +105,7 @@ fn relax<M: Map, Q: Queue>(map: &M, queue: &mut Q, costs: &mut [u32], place: usi
     ensures searching { Searching (M.graph map.now) costs.new (Q.model queue.new) }
     ensures keeps { Keeps (M.graph map.now) costs.old costs.new (Q.model queue.old) (Q.model queue.new) }
 {
+    // A map answers an edge by its index, since its edges need not lie anywhere as a list.
     for index in 0..map.edge_count(place) {
         relax_edge(map, queue, costs, place, index);
     }
@@ -115,17 +115,12 @@ fn relax<M: Map, Q: Queue>(map: &M, queue: &mut Q, costs: &mut [u32], place: usi
 fn take_within<Q: Queue>(queue: &mut Q, bound: u32) -> Option<usize>
     ensures takes { TakesWithin (Q.model queue.old) (Q.model queue.new) bound result }
 {
-    match queue.look() {
-        None => None,
-        Some(least) => {
-            if least.0 <= bound {
-                let _ = queue.take();
-                Some(least.1)
-            } else {
-                None
-            }
-        }
+    let (key, place) = queue.look()?;
+    if key > bound {
+        return None;
     }
+    let _ = queue.take();
+    Some(place)
 }
 
 // Clears the queue and the costs, and lets the start wait if it has an estimate.
@@ -133,9 +128,8 @@ fn begin<M: Map, Q: Queue>(map: &M, queue: &mut Q, costs: &mut [u32])
     requires room { (M.graph map.now).size ≤ (Q.model queue.old).size }
     requires long { (M.graph map.now).size ≤ length costs.old }
     ensures searching { Searching (M.graph map.now) costs.new (Q.model queue.new) }
-    ensures none { (p : ℕ) → p < (M.graph map.now).size → settled costs.new (Q.model queue.new) p ≡ None }
-    ensures size { (Q.model queue.new).size ≡ (Q.model queue.old).size }
-    ensures rest { (p : ℕ) → (M.graph map.now).size ≤ p → cost_at costs.new p ≡ cost_at costs.old p }
+    ensures none { NoneOpened (M.graph map.now) costs.new (Q.model queue.new) }
+    ensures beyond { KeepsBeyond (M.graph map.now) costs.old costs.new (Q.model queue.old) (Q.model queue.new) }
 {
     queue.empty();
     clear(costs, map.size());
@@ -148,15 +142,15 @@ fn begin<M: Map, Q: Queue>(map: &M, queue: &mut Q, costs: &mut [u32])
 // Opens places until the least key in the queue is above the cost of the finish, and answers how many were opened.
 fn run<M: Map, Q: Queue>(map: &M, queue: &mut Q, costs: &mut [u32]) -> usize
     requires searching { Searching (M.graph map.now) costs.old (Q.model queue.old) }
-    requires none { (p : ℕ) → p < (M.graph map.now).size → settled costs.old (Q.model queue.old) p ≡ None }
+    requires none { NoneOpened (M.graph map.now) costs.old (Q.model queue.old) }
     ensures searching { Searching (M.graph map.now) costs.new (Q.model queue.new) }
     ensures over { NoneWithin (Q.model queue.new) (cost_at costs.new (M.graph map.now).finish) }
     ensures opened { result ≡ tally (settled costs.new (Q.model queue.new)) (M.graph map.now).size }
-    ensures size { (Q.model queue.new).size ≡ (Q.model queue.old).size }
-    ensures rest { (p : ℕ) → (M.graph map.now).size ≤ p → cost_at costs.new p ≡ cost_at costs.old p }
+    ensures beyond { KeepsBeyond (M.graph map.now) costs.old costs.new (Q.model queue.old) (Q.model queue.new) }
 {
     let finish = map.finish();
     let mut opened = 0;
+    // No chain that counts: its two closures, to take and to relax, would both change the queue.
     while let Some(place) = take_within(queue, costs[finish]) {
         relax(map, queue, costs, place);
         opened += 1;

@@ -1,36 +1,25 @@
 use Rattle.std.proofs.Common.{◌≡◌, ℕ, ◌+◌, Some, sym, ap, ◌∙◌, arith}
 use Rattle.codetable.specs.Tables.{words}
-use Rattle.codetable.proofs.Stored.{nth_within}
 use Rattle.distance.specs.Tails.{compared}
 use Rattle.distance.specs.Steps.{against_at, against_past}
-use Rattle.distance.specs.Laws.{sound}
+use Rattle.distance.proofs.Indexed.{stored_at}
 use Rattle.distance.proofs.tails.Tails.against.Goals as goal
 
 pub returns-in_err-word : goal.returns-in_err-word
 returns-in_err-word c =
-    let t = c.args.tail in
+    let t = c.args.tail.now in
     record {
       edge = c.from_residual.ensures ∙ sym (against_past t.number t.word t.cut 0 (words c.args.self.now.table) c.args.index (sym c.in_err-word.ensures.found));
     }
 
 pub compare-requires : goal.compare-requires
 compare-requires c =
-    let ws = words c.args.self.now.table in
-    let s = sound c.args.self.now.table in
-    let there = sym c.in_ok-word.ensures.found in
-    let below = nth_within ws c.args.index c.in_ok-word.word there in
-    let few = s.few in
-    record {
-      tail = c.requires.number;
-      within = c.requires.within;
-      short = c.requires.short;
-      word = omega arith;
-      bits = (s.formed c.args.index c.in_ok-word.word there).1;
-    }
+    let stored = stored_at c.args.self.now.table c.in_ok-word.ensures.found in
+    record { number = omega arith; short = stored.1.1 }
 
 pub returns : goal.returns
 returns c =
-    let t = c.args.tail in
+    let t = c.args.tail.now in
     let b = c.in_ok-word.word in
     let number : c.args.index ≡ 0 + c.args.index = omega arith in
     record {

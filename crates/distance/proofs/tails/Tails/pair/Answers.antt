@@ -1,51 +1,40 @@
-use Rattle.std.proofs.Common.{◌≡◌, ◌+◌, ◌-◌, length, drop, sym, refl, ap, ◌∙◌, zero-le, arith}
-use Rattle.codetable.specs.Tables.{words}
-use Rattle.codetable.proofs.Stored.{nth_there, nth_missing}
+use Rattle.std.specs.List.{slice_get}
+use Rattle.std.proofs.Common.{◌+◌, List, get_or, sym, ap, ◌∙◌, zero-le, arith}
+use Rattle.std.proofs.lemmas.Option.{slice_get-get_or}
+use Rattle.codetable.specs.declared.word.Codeword.{Codeword}
 use Rattle.search.specs.Graphs.{nth as edge_nth}
-use Rattle.distance.specs.Tails.{pairs}
-use Rattle.distance.specs.Laws.{sound}
-use Rattle.distance.proofs.Indexed.{pair_here, pair_behind, pair_none}
+use Rattle.distance.specs.Tails.{against}
+use Rattle.distance.proofs.Indexed.{stored_at, pair_here, pair_behind, pair_none}
 use Rattle.distance.proofs.tails.Tails.pair.Goals as goal
 
-pub loop-number-init : goal.loop-number-init
-loop-number-init c = refl
+-- what a read past the end would answer
+abbrev blank : Codeword
+blank = record { len = 0; value = 0; weight = 0 }
 
-pub returns-in_err-word : goal.returns-in_err-word
-returns-in_err-word c =
-    let missing = nth_missing (words c.args.self.now.table) c.loop-number.number (sym c.in_err-word.ensures.found) in
-    let len = c.len-len.ensures.count in
-    absurd (omega arith)
-
-pub against-requires : goal.against-requires
-against-requires c =
-    let s = sound c.args.self.now.table in
-    let few = s.few in
-    let len = c.len-len.ensures.count in
-    record {
-      number = omega arith;
-      within = zero-le;
-      short = (s.formed c.loop-number.number c.in_ok-word.word (sym c.in_ok-word.ensures.found)).1;
-    }
+pub invariant_of-against : goal.invariant_of-against
+invariant_of-against c =
+    let ws = c.as_slice-words.result.now in
+    let there = slice_get-get_or ws c.loop-number.number blank c.loop-number-test.true in
+    let stored = stored_at c.args.self.now.table (sym there ∙ ap (λ (l : List Codeword). slice_get l c.loop-number.number) c.as_slice-words.ensures.words) in
+    record { numbered = omega arith; short = stored.1.1; within = zero-le }
 
 pub returns-then-left-behind : goal.returns-then-left-behind
 returns-then-left-behind c =
-    let ws = words c.args.self.now.table in
-    let len = c.len-len.ensures.count in
+    let ws = c.as_slice-words.result.now in
+    let number = c.loop-number.number in
+    let left = c.loop-number.left in
+    let there = slice_get-get_or ws number blank c.loop-number-test.true in
     record {
-      edge = c.against.ensures.edge ∙ sym (c.loop-number.invariant ∙ pair_here ws c.loop-number.number (omega arith) c.in_ok-word.word (sym c.in_ok-word.ensures.found) c.loop-number.left (omega arith));
+      edge = c.against.ensures.edge ∙ ap (λ (l : List Codeword). edge_nth (against number (get_or ws number blank) 0 0 l) (number + 1 + left)) (sym c.as_slice-words.ensures.words) ∙ sym (c.loop-number.invariant ∙ pair_here ws number c.loop-number-test.true (get_or ws number blank) there left c.if-left-behind.true);
     }
 
 pub loop-number-preserved : goal.loop-number-preserved
 loop-number-preserved c =
-    let ws = words c.args.self.now.table in
-    let len = c.len-len.ensures.count in
+    let ws = c.as_slice-words.result.now in
     let number = c.loop-number.number in
-    let found = nth_there ws number (λ ge. omega arith) in
-    let behind : c.loop-number.left - (length ws - 1 - number) ≡ c.loop-number.left - (c.len-len.result - 1 - number) = omega arith in
-    c.loop-number.invariant ∙ pair_behind ws number (omega arith) found.0 found.1 c.loop-number.left (omega arith) ∙ ap (edge_nth (pairs (number + 1) (drop (number + 1) ws))) behind
+    let there = slice_get-get_or ws number blank c.loop-number-test.true in
+    c.loop-number.invariant ∙ pair_behind ws number c.loop-number-test.true (get_or ws number blank) there c.loop-number.left c.if-left-behind.false
 
 pub returns : goal.returns
 returns c =
-    let ws = words c.args.self.now.table in
-    let len = c.len-len.ensures.count in
-    record { edge = sym (c.loop-number.invariant ∙ pair_none ws c.loop-number.number c.loop-number.left (omega arith)) }
+    record { edge = sym (c.loop-number.invariant ∙ pair_none c.as_slice-words.result.now c.loop-number.number c.loop-number.left c.loop-number-test.false) }
