@@ -1,5 +1,5 @@
 -- What the answer of a search says of the lists of words.
-use Rattle.std.proofs.Common.{◌≡◌, ℕ, ◌+◌, ◌<◌, true, ◌⊎◌, List, length, ℤ, is_err, IsErrAnd, None, Ok, Err, Result, sym, refl, subst, inl, inr, ⊎_elim, arith}
+use Rattle.std.proofs.Common.{◌≡◌, ℕ, ◌+◌, ◌<◌, ◌≤◌, true, ◌⊎◌, List, length, ℤ, is_err, IsErrAnd, None, Ok, Err, Result, sym, refl, subst, inl, inr, ⊎_elim, arith}
 use Rattle.std.proofs.lemmas.Bool.{false≢true}
 use Rattle.refusal.specs.Checks.{Judged, FirstDue}
 use Rattle.refusal.specs.Refusals.{number}
@@ -7,15 +7,27 @@ use Rattle.refusal.specs.declared.Refusal.TheVariants.{Search}
 use Rattle.refusal.specs.declared.SearchFault.{SearchFault}
 use Rattle.refusal.specs.declared.SearchFault.TheVariants.{BadCount, Short, NoFit}
 use Rattle.codetable.specs.declared.word.Codeword.{Codeword}
+use Rattle.codetable.specs.declared.table.CodeTable.{CodeTable}
+use Rattle.codetable.specs.Tables.{words}
+use Rattle.softvalues.specs.declared.received.SoftValues.{SoftValues}
+use Rattle.softvalues.specs.Received.{values}
 use Rattle.queue.specs.Queues.{Model}
 use Rattle.search.specs.Searches.{Leaves, Refused, by_search, search_checks}
 use Rattle.decoder.specs.declared.Decoded.{Decoded}
 use Rattle.decoder.specs.Metrics.{metric, most_list}
-use Rattle.decoder.specs.Estimates.{Ahead}
-use Rattle.decoder.specs.Trellis.{trellis}
-use Rattle.decoder.specs.Laws.{Sound}
+use Rattle.decoder.specs.Estimates.{Ahead, EstimatesAreLeast}
+use Rattle.decoder.specs.Trellis.{trellis, PathsAreLists}
+use Rattle.decoder.specs.Laws.{Sound, sound_of}
 use Rattle.decoder.specs.Decoding.{Remains, Spares, decode_checks}
+use Rattle.decoder.proofs.Filled.{estimates_are_least}
 use Rattle.decoder.proofs.Paths.{paths_are_lists}
+
+-- what every call of the decoder promises
+pub lists_of : (t : CodeTable) (s : SoftValues) (word_count : ℕ) → word_count ≤ most_list → PathsAreLists (words t) (values s) word_count
+lists_of t s word_count few = paths_are_lists (words t) (values s) word_count (sound_of t s word_count few)
+
+pub estimates_of : (t : CodeTable) (s : SoftValues) → EstimatesAreLeast (words t) (values s)
+estimates_of t s = estimates_are_least (words t) t.formed (values s)
 
 module _ (ws : List Codeword) (vs : List ℤ) (word_count : ℕ) (s : Sound ws vs word_count) where
   module _ (m q : Model) (costs costs' ahead ahead' : List ℕ) (A B C : Type 0) (done : Decoded → Type 0) where

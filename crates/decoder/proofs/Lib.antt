@@ -8,4 +8,5 @@ pub mod Paths
 pub mod Ranked
 pub mod Traced
 pub mod Reading
+pub mod Lowest
 pub mod Deciding

@@ -7,7 +7,7 @@ use Rattle.codetable.specs.Codewords.{bits}
 use Rattle.codetable.specs.Sequences.{joined_bits}
 use Rattle.codetable.proofs.Bits.{length-bits}
 use Rattle.codetable.proofs.Sequences.{bits_there, joined_push}
-use Rattle.decoder.specs.Metrics.{penalty, changes, over, weight_at, weights, metric, changed}
+use Rattle.decoder.specs.Metrics.{penalty, over, weight_at, weights, metric}
 use Rattle.decoder.specs.Estimates.{share}
 
 pub over_none : (f : Bool → ℤ → ℕ) (bs : List Bool) → over f bs [] ≡ 0
@@ -67,7 +67,3 @@ metric_push ws vs ks k w at_k =
     let all = weights_push ws ks k in
     let here = weight_there ws k w at_k in
     omega arith
-
--- the changed bits with one word behind the others
-pub changed_push : (ws : List Codeword) (vs : List ℤ) (ks : List ℕ) (k : ℕ) (w : Codeword) → slice_get ws k ≡ Some w → changed ws vs (ks ++ k ∷ []) ≡ changed ws vs ks + over changes (bits w) (drop (length (joined_bits ws ks)) vs)
-changed_push ws vs ks k w at_k = over_push changes ws vs ks k w at_k

@@ -1,5 +1,5 @@
 -- The estimates: the least metric of any number of words that fill the rest of what was received.
-use Rattle.std.specs.Prelude.{◌≡◌, ℕ, ◌+◌, ◌-◌, ◌<◌, ◌≤◌, min, List, [], ◌∷◌, length, drop, ℤ, Some, None, Option, slice_index, slice_index_or}
+use Rattle.std.specs.Prelude.{◌≡◌, ℕ, ◌+◌, ◌-◌, ◌<◌, ◌≤◌, ◌==◌, if◌then◌else◌, min, List, [], ◌∷◌, length, drop, ℤ, Some, None, Option, slice_index, slice_index_or}
 use Rattle.codetable.specs.declared.word.Codeword.{Codeword}
 use Rattle.codetable.specs.Codewords.{bits}
 use Rattle.codetable.specs.Sequences.{Sequence, joined_bits}
@@ -58,6 +58,14 @@ EstimatesAreLeast ws vs = (j : ℕ) → j ≤ length vs → IsEstimate ws (drop 
 abbrev pub written : Option ℕ → ℕ
 written None = unknown
 written (Some e) = e
+
+-- the estimate that a number in memory stands for
+abbrev pub read : ℕ → Option ℕ
+read n = if n == unknown then None else Some n
+
+-- the memory holds the estimates from bit j on
+abbrev pub HoldsFrom : List Codeword → List ℤ → ℕ → List ℕ → Type 0
+HoldsFrom ws vs j ahead = (i : ℕ) → j ≤ i → i ≤ length vs → slice_index ahead i ≡ written (estimate ws vs i)
 
 -- the memory holds the estimates of all bits, and behind them what it had before
 pub record Ahead (ws : List Codeword) (vs : List ℤ) (before after : List ℕ) : Type 0 where

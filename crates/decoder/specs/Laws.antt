@@ -3,7 +3,6 @@ use Rattle.std.specs.Prelude.{◌≡◌, ℕ, zero, suc, ◌+◌, ◌-◌, ◌*�
 use Rattle.std.proofs.Common.{sym, ap, subst, ◌∙◌, inl, inr, ⊎_elim, zero-le, not-suc-le-zero, le_of_suc-le-suc, zero-add, suc-add, arith}
 use Rattle.std.specs.List.{slice_get}
 use Rattle.std.proofs.lemmas.Nat.{div-mul-add, mod-mul-add}
-use Rattle.std.proofs.lemmas.List.{length-take-le}
 use Rattle.std.proofs.lemmas.Bool.{cases_lt, cond_both}
 use Rattle.codetable.specs.declared.word.Codeword.{Codeword}
 use Rattle.codetable.specs.declared.table.CodeTable.{CodeTable}
@@ -14,6 +13,7 @@ use Rattle.softvalues.specs.declared.received.SoftValues.{SoftValues}
 use Rattle.softvalues.specs.Scale.{OnScale, magnitude, most_magnitude}
 use Rattle.softvalues.specs.Stored.{AllOnScale, most_values}
 use Rattle.softvalues.specs.Received.{values}
+use Rattle.softvalues.proofs.Held.{few_values, all_on_scale}
 use Rattle.search.specs.Graphs.{Edge, Path, here, on, Lawful, guess, unknown}
 use Rattle.decoder.specs.Metrics.{contradicts, penalty, over, most_list}
 use Rattle.decoder.specs.Estimates.{share, extended, lesser, first_words, estimates, estimate}
@@ -29,13 +29,11 @@ pub record Sound (ws : List Codeword) (vs : List ℤ) (word_count : ℕ) : Type 
   pub few_words : word_count ≤ most_list
 
 pub few_values_of : (s : SoftValues) → length (values s) ≤ most_values
-few_values_of s =
-    let long : length (values s) ≡ s.inner.len = length-take-le s.inner.len s.inner.at (omega (arith, s.room.0, s.room.1)) in
-    omega (arith, s.room.0)
+few_values_of = few_values
 
 pub sound_of : (t : CodeTable) (s : SoftValues) (word_count : ℕ) → word_count ≤ most_list → Sound (words t) (values s) word_count
 sound_of t s word_count few =
-    record { formed = t.formed; weighed = t.weighed; scaled = s.scale; few_values = few_values_of s; few_words = few }
+    record { formed = t.formed; weighed = t.weighed; scaled = all_on_scale s; few_values = few_values_of s; few_words = few }
 
 -- the most that a word of n bits adds to a metric
 abbrev pub most_share : ℕ → ℕ

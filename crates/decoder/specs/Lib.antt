@@ -3,7 +3,7 @@ pub mod Estimates
 pub mod Trellis
 pub mod Steps
 pub mod Laws
-pub mod Memory
+pub mod Receptions
 pub mod Lists
 pub mod Traces
 pub mod Decoding

@@ -5,6 +5,7 @@ use Rattle.std.specs.List.{slice_get}
 use Rattle.std.specs.Option.{option_map, unwrap_or}
 use Rattle.codetable.specs.declared.word.Codeword.{Codeword}
 use Rattle.codetable.specs.Sequences.{Sequence, joined_bits}
+use Rattle.softvalues.specs.declared.scale.SoftValue.{SoftValue}
 use Rattle.softvalues.specs.Scale.{hard_bit_of, magnitude}
 use Rattle.distance.specs.Distances.{FreeDistance}
 
@@ -22,13 +23,21 @@ pub record Fits (ws : List Codeword) (bit_count word_count : ℕ) (ks : List ℕ
 abbrev pub contradicts : Bool → ℤ → Bool
 contradicts b v = not (beq b (hard_bit_of v))
 
+-- a number of the value that contradicts a bit, and 0 where none does
+abbrev pub if_contradicted : (ℤ → ℕ) → Bool → ℤ → ℕ
+if_contradicted g b v = cond (contradicts b v) (g v) 0
+
 -- what a bit adds to the metric: the magnitude of the value that contradicts it
 abbrev pub penalty : Bool → ℤ → ℕ
-penalty b v = cond (contradicts b v) (magnitude v) 0
+penalty = if_contradicted magnitude
 
 -- one for a bit that counts as changed
 abbrev pub changes : Bool → ℤ → ℕ
-changes b v = cond (contradicts b v) 1 0
+changes = if_contradicted (λ _. 1)
+
+-- what a call gives for a soft value is g of its number
+abbrev pub Computes : (SoftValue → ℕ → Type 0) → (ℤ → ℕ) → Type 0
+Computes gives g = (v : SoftValue) (r : ℕ) → gives v r → r ≡ g v.value
 
 -- the sum of a number for each bit and the value at its place, as far as both rows go
 unfoldable pub over : (Bool → ℤ → ℕ) → List Bool → List ℤ → ℕ

@@ -21,6 +21,10 @@ pub record Searched (ws : List Codeword) (vs : List ℤ) (word_count : ℕ) (cos
 abbrev pub ComesLast : List ℤ → List ℕ → ℕ → ℕ → Codeword → Type 0
 ComesLast vs costs i b w = cost_at costs (trellis_place i b) + share w (drop b vs) ≡ cost_at costs (trellis_place (i + 1) (b + w.len))
 
+-- the word w comes last at i + 1 words and j bits
+abbrev pub EndsAt : List ℤ → List ℕ → ℕ → ℕ → Codeword → Type 0
+EndsAt vs costs i j w = (b : ℕ) × (j ≡ b + w.len) × ComesLast vs costs i b w
+
 -- no word with a number below n comes last at i + 1 words and j bits
 abbrev pub NoneLast : List Codeword → List ℤ → List ℕ → ℕ → ℕ → ℕ → Type 0
 NoneLast ws vs costs i j n = (k : ℕ) (w : Codeword) (b : ℕ) → k < n → slice_get ws k ≡ Some w → j ≡ b + w.len → ComesLast vs costs i b w → ⊥

@@ -1,5 +1,5 @@
 -- The trellis map: a graph whose paths are lists of words laid on what was received.
-use Rattle.std.specs.Prelude.{◌≡◌, ℕ, ◌+◌, ◌*◌, ◌/◌, ◌%◌, ◌≤◌, cond, List, [], ◌∷◌, length, drop, ℤ, nat_le, nat_lt}
+use Rattle.std.specs.Prelude.{◌≡◌, ℕ, ◌+◌, ◌*◌, ◌/◌, ◌%◌, ◌≤◌, Bool, cond, List, [], ◌∷◌, length, drop, ℤ, nat_le, nat_lt}
 use Rattle.codetable.specs.declared.word.Codeword.{Codeword}
 use Rattle.search.specs.Graphs.{Graph, Path}
 use Rattle.decoder.specs.Metrics.{Fits, metric}
@@ -12,6 +12,10 @@ columns = 256
 -- the place of i words and j bits so far
 abbrev pub trellis_place : ℕ → ℕ → ℕ
 trellis_place i j = i * columns + j
+
+-- the word w, laid behind j bits, ends within the values
+abbrev pub fits_behind : List ℤ → ℕ → Codeword → Bool
+fits_behind vs j w = nat_le (j + w.len) (length vs)
 
 -- the edges for the words of a list, from i words and j bits: none for a word that passes the last bit
 unfoldable pub row : List Codeword → List ℤ → ℕ → ℕ → List (ℕ × ℕ)

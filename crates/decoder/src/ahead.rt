@@ -1,43 +1,70 @@
 // The estimates: the least metric of any number of words that fill the rest of what was received.
-ghost use Rattle.std.specs.Prelude.{◌≡◌, ℕ, ◌<◌, ◌≤◌, length, slice_index};
-ghost use Rattle.codetable.specs.Tables.{words};
-ghost use Rattle.softvalues.specs.Received.{values};
-ghost use Rattle.decoder.specs.Estimates.{Ahead, estimate, written};
+ghost use Rattle.std.specs.Prelude.{◌≡◌, ℕ, suc, ◌+◌, ◌<◌, ◌≤◌, length, drop};
+ghost use Rattle.decoder.specs.Estimates.{Ahead, HoldsFrom, estimate, extended, read, share, written};
+ghost use Rattle.decoder.specs.Receptions.{code, observed};
 
-use crate::laying::word_share;
-use codetable::CodeTable;
-use softvalues::SoftValues;
+use crate::reception::Reception;
+use codetable::Codeword;
 
-// What stands for no estimate.
-pub(crate) const NONE: u32 = 4294967295;
+// What stands for no estimate: the memory is lent as plain numbers, and this is a rule of its format.
+const NONE: u32 = 4294967295;
 
-// The estimate at bit j, from those behind it.
-fn estimate_at(table: &CodeTable, received: &SoftValues, ahead: &[u32], j: usize) -> u32
-    requires before { j < length (values received.now) }
-    requires room { length (values received.now) < length ahead.now }
-    requires behind { (i : ℕ) → j < i → i ≤ length (values received.now) → slice_index ahead.now i ≡ written (estimate (words table.now) (values received.now) i) }
-    ensures estimate { result ≡ written (estimate (words table.now) (values received.now) j) }
+// An estimate as it stands in memory.
+fn write(estimate: Option<u32>) -> u32
+    ensures written { result ≡ written estimate }
 {
-    let mut least = NONE;
-    for k in 0..table.len() {
-        if let Some(word) = table.word(k) {
-            let next = j + usize::from(word.len);
-            if next <= received.len() && ahead[next] != NONE {
-                least = least.min(word_share(word, received, j) + ahead[next]);
-            }
-        }
-    }
-    least
+    estimate.unwrap_or(NONE)
 }
 
-// Writes the estimate of each bit, from the last to the first.
-pub(crate) fn fill_ahead(table: &CodeTable, received: &SoftValues, ahead: &mut [u32])
-    requires room { length (values received.now) < length ahead.old }
-    ensures ahead { Ahead (words table.now) (values received.now) ahead.old ahead.new }
+// The estimate that a number in memory stands for.
+pub(crate) fn read(stored: u32) -> Option<u32>
+    ensures read { result ≡ read stored }
 {
-    let len = received.len();
-    ahead[len] = 0;
-    for j in (0..len).rev() {
-        ahead[j] = estimate_at(table, received, ahead, j);
+    (stored != NONE).then_some(stored)
+}
+
+impl Reception<'_> {
+    // The estimate at bit j if this word comes first there, from those behind it.
+    // No struct holds the memory with its room, since `fill_ahead` writes between two readings.
+    fn estimate_by(&self, word: Codeword, ahead: &[u32], j: usize) -> Option<u32>
+        requires some { 1 ≤ word.len }
+        requires before { j < length (observed self.now) }
+        requires room { length (observed self.now) < length ahead.now }
+        requires behind { HoldsFrom (code self.now) (observed self.now) (suc j) ahead.now }
+        ensures sum { result ≡ extended (share word (drop j (observed self.now))) (estimate (code self.now) (observed self.now) (j + word.len)) }
+    {
+        let next = j + usize::from(word.len);
+        if next > self.received.len() {
+            return None;
+        }
+        let estimate = read(ahead[next])?;
+        Some(self.share(word, j) + estimate)
+    }
+
+    // The estimate at bit j, from those behind it.
+    fn estimate_at(&self, ahead: &[u32], j: usize) -> Option<u32>
+        requires before { j < length (observed self.now) }
+        requires room { length (observed self.now) < length ahead.now }
+        requires behind { HoldsFrom (code self.now) (observed self.now) (suc j) ahead.now }
+        ensures estimate { result ≡ estimate (code self.now) (observed self.now) j }
+    {
+        self.table
+            .as_slice()
+            .iter()
+            .filter_map(|&word| self.estimate_by(word, ahead, j))
+            .min()
+    }
+
+    // Writes the estimate of each bit, from the last to the first.
+    pub(crate) fn fill_ahead(&self, ahead: &mut [u32])
+        requires room { length (observed self.now) < length ahead.old }
+        ensures ahead { Ahead (code self.now) (observed self.now) ahead.old ahead.new }
+    {
+        let len = self.received.len();
+        ahead[len] = 0;
+        // An index, since each estimate is from those behind it in the same memory.
+        for j in (0..len).rev() {
+            ahead[j] = write(self.estimate_at(ahead, j));
+        }
     }
 }

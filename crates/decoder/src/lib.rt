@@ -1,29 +1,29 @@
 // The decoder: the best list of words for what was received.
 #![tactic(auto)]
 
-ghost use Rattle.std.specs.Prelude.{◌≡◌, ℕ, ◌<◌, ◌≤◌, length, Some, None, slice_index};
+ghost use Rattle.std.specs.Prelude.{◌≡◌, ◌≤◌, Some, None};
 ghost use Rattle.refusal.specs.Checks.{Judged};
 ghost use Rattle.codetable.specs.Tables.{words};
-ghost use Rattle.search.specs.Searches.{Finds, Leaves, Refused, by_search, search_checks};
+ghost use Rattle.search.specs.Searches.{by_search};
 ghost use Rattle.softvalues.specs.Received.{values};
 ghost use Rattle.decoder.specs.Metrics.{most_list};
-ghost use Rattle.decoder.specs.Estimates.{EstimatesAreLeast, estimate, written};
-ghost use Rattle.decoder.specs.Trellis.{PathsAreLists, trellis};
+ghost use Rattle.decoder.specs.Estimates.{EstimatesAreLeast};
+ghost use Rattle.decoder.specs.Trellis.{PathsAreLists};
 ghost use Rattle.decoder.specs.Decoding.{Decodes, Remains, Spares, decode_checks};
 
-use ahead::fill_ahead;
 use codetable::CodeTable;
 use list::MOST_LIST;
 use queue::Queue;
+use reception::Reception;
 use refusal::SearchFault;
-use search::{Found, Map, search};
+use search::{Found, search};
 use softvalues::SoftValues;
-use trace::read_back;
+use trace::Trace;
 use trellis::{Trellis, place_of};
 
 mod ahead;
-mod laying;
 pub mod list;
+mod reception;
 mod trace;
 mod trellis;
 
@@ -40,34 +40,12 @@ pub struct Decoded {
     pub list: WordList,
 }
 
-// Searches the trellis of so many words, with the estimates in `ahead`.
-fn search_trellis<'a, Q: Queue>(
-    table: &'a CodeTable,
-    received: &'a SoftValues,
-    count: usize,
-    ahead: &'a [u32],
-    queue: &mut Q,
-    costs: &mut [u32],
-) -> Result<Found, SearchFault>
-    requires few { count ≤ most_list }
-    requires room { length (values received.now) < length ahead.now }
-    requires exact { (j : ℕ) → j ≤ length (values received.now) → slice_index ahead.now j ≡ written (estimate (words table.now) (values received.now) j) }
-    ensures answer { Judged (search_checks (trellis (words table.now) (values received.now) count) (Q.model queue.old) costs.old) by_search result (λ found. Finds (trellis (words table.now) (values received.now) count) found × Leaves (trellis (words table.now) (values received.now) count) (Some found.limit) (Q.model queue.old) (Q.model queue.new) costs.old costs.new) (λ f. Refused f ((queue.new ≡ queue.old) × (costs.new ≡ costs.old)) (Leaves (trellis (words table.now) (values received.now) count) None (Q.model queue.old) (Q.model queue.new) costs.old costs.new)) }
-{
-    let map = Trellis {
-        table,
-        received,
-        count,
-        ahead,
-    };
-    search(&map, queue, costs)
-}
-
 // Finds the best list of `count` words for what was received. The estimates are written to `ahead`, and the trellis is
 // searched with the queue, whatever that held before, and the costs; the list is read back from the costs.
 // The count is refused unless it is 1 to 32. It is short if the queue's size or the number of costs is below that of the
 // trellis' places, or if `ahead` has no room for one estimate more than there are values. Both change nothing. If no list
 // fits, the queue, the costs and the estimates are left as the search leaves them.
+#[tactic(auto, using(crate::proofs::Deciding::lists_of, crate::proofs::Deciding::estimates_of))]
 pub fn decode<Q: Queue>(
     table: &CodeTable,
     received: &SoftValues,
@@ -87,14 +65,29 @@ pub fn decode<Q: Queue>(
     if queue.size() < size || costs.len() < size || ahead.len() < received.len() + 1 {
         return Err(SearchFault::Short);
     }
-    fill_ahead(table, received, ahead);
-    let found = search_trellis(table, received, count, ahead, queue, costs)?;
-    let (list, changed) = read_back(table, received, costs, count);
+    let reception = Reception { table, received };
+    reception.fill_ahead(ahead);
+    let trellis = Trellis {
+        reception,
+        count,
+        ahead,
+    };
+    let Found {
+        limit,
+        opened,
+        waiting,
+    } = search(&trellis, queue, costs)?;
+    let trace = Trace {
+        reception,
+        costs,
+        count,
+    };
+    let (list, changed) = trace.read_back();
     Ok(Decoded {
-        metric: found.limit,
+        metric: limit,
         changed,
-        opened: found.opened,
-        waiting: found.waiting,
+        opened,
+        waiting,
         list,
     })
 }

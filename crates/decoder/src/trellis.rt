@@ -1,33 +1,31 @@
 // The trellis map. Its paths are lists of words laid on what was received: a place is a number of words and of bits so far.
-ghost use Rattle.std.specs.Prelude.{◌≡◌, ℕ, ◌<◌, ◌≤◌, length, slice_index};
-ghost use Rattle.codetable.specs.Tables.{words};
+ghost use Rattle.std.specs.Prelude.{◌≡◌, ℕ, ◌<◌, ◌≤◌, length};
+ghost use Rattle.std.specs.List.{count_by, filter, slice_get};
 ghost use Rattle.search.specs.Graphs.{nth as edge_nth};
-ghost use Rattle.softvalues.specs.Received.{values};
 ghost use Rattle.softvalues.specs.Stored.{most_values};
 ghost use Rattle.decoder.specs.Metrics.{most_list};
-ghost use Rattle.decoder.specs.Estimates.{estimate, written};
-ghost use Rattle.decoder.specs.Trellis.{columns, row, trellis, trellis_place};
+ghost use Rattle.decoder.specs.Estimates.{HoldsFrom};
+ghost use Rattle.decoder.specs.Receptions.{code, observed};
+ghost use Rattle.decoder.specs.Trellis.{columns, fits_behind, row, trellis, trellis_place};
 ghost use Rattle.decoder.specs.Laws.{sound_of, trellis_lawful};
 
-use crate::ahead::NONE;
-use crate::laying::word_share;
-use codetable::CodeTable;
+use crate::ahead::read;
+use crate::reception::Reception;
+use codetable::Codeword;
 use search::Map;
-use softvalues::SoftValues;
 
 // One more than the most bits.
 const COLUMNS: usize = 256;
 
-// The trellis of a table, what was received and a number of words, with the estimates in memory.
+// The trellis of what was received and a number of words, with the estimates in memory.
 #[derive(Drop)]
 pub(crate) struct Trellis<'a> {
-    pub(crate) table: &'a CodeTable,
-    pub(crate) received: &'a SoftValues,
+    pub(crate) reception: Reception<'a>,
     pub(crate) count: usize,
     pub(crate) ahead: &'a [u32],
     ghost few: { count ≤ most_list },
-    ghost room: { length (values received.now) < length ahead.now },
-    ghost exact: { (j : ℕ) → j ≤ length (values received.now) → slice_index ahead.now j ≡ written (estimate (words table.now) (values received.now) j) },
+    ghost room: { length (observed reception) < length ahead.now },
+    ghost exact: { HoldsFrom (code reception) (observed reception) 0 ahead.now },
 }
 
 // The place of so many words, the stage, and so many bits.
@@ -39,53 +37,55 @@ pub(crate) fn place_of(stage: usize, bits: usize) -> usize
     stage * COLUMNS + bits
 }
 
+// A number of bits is required by each function here: it is another at each call, so no struct holds it.
 impl Trellis<'_> {
     // How many words end within what was received, laid behind so many bits.
     fn fitting(&self, bits: usize) -> usize
         requires bits { bits < columns }
-        ensures count { (i : ℕ) → result ≡ length (row (words self.now.table.now) (values self.now.received.now) i bits) }
+        ensures count { result ≡ count_by (fits_behind (observed self.now.reception) bits) (code self.now.reception) }
     {
-        let mut count = 0;
-        for k in 0..self.table.len() {
-            if let Some(word) = self.table.word(k) {
-                if bits + usize::from(word.len) <= self.received.len() {
-                    count += 1;
-                }
-            }
-        }
-        count
+        self.reception
+            .table
+            .as_slice()
+            .iter()
+            .filter(|word| self.reception.fits(**word, bits))
+            .count()
+    }
+
+    // The chain of `fitting` once more, since no function can answer it: its type has a closure in it.
+    // The word at an index among those that end within what was received, laid behind so many bits.
+    fn fitting_word(&self, bits: usize, index: usize) -> Option<Codeword>
+        requires bits { bits < columns }
+        ensures word { result ≡ slice_get (filter (fits_behind (observed self.now.reception) bits) (code self.now.reception)) index }
+    {
+        self.reception
+            .table
+            .as_slice()
+            .iter()
+            .filter(|word| self.reception.fits(**word, bits))
+            .nth(index)
+            .copied()
     }
 
     // The edge at an index from so many words and bits: it adds the word at this index among those that fit.
     fn step(&self, stage: usize, bits: usize, index: usize) -> Option<(usize, u32)>
         requires stage { stage < self.now.count }
         requires bits { bits < columns }
-        ensures edge { result ≡ edge_nth (row (words self.now.table.now) (values self.now.received.now) stage bits) index }
+        ensures edge { result ≡ edge_nth (row (code self.now.reception) (observed self.now.reception) stage bits) index }
     {
-        let mut left = index;
-        for k in 0..self.table.len() {
-            if let Some(word) = self.table.word(k) {
-                let end = bits + usize::from(word.len);
-                if end <= self.received.len() {
-                    if left == 0 {
-                        let cost = word_share(word, self.received, bits);
-                        return Some((place_of(stage + 1, end), cost));
-                    }
-                    left -= 1;
-                }
-            }
-        }
-        None
+        let word = self.fitting_word(bits, index)?;
+        let end = bits + usize::from(word.len);
+        Some((place_of(stage + 1, end), self.reception.share(word, bits)))
     }
 }
 
 impl Map for Trellis<'_> {
-    ghost graph = { λ m. trellis (words m.table.now) (values m.received.now) m.count };
+    ghost graph = { λ m. trellis (code m.reception) (observed m.reception) m.count };
 
-    ghost lawful = { λ m. trellis_lawful (words m.table.now) (values m.received.now) m.count (sound_of m.table.now m.received.now m.count m.few) };
+    ghost lawful = { λ m. trellis_lawful (code m.reception) (observed m.reception) m.count (sound_of m.reception.table.now m.reception.received.now m.count m.few) };
 
     fn size(&self) -> usize {
-        place_of(self.count, self.received.len()) + 1
+        place_of(self.count, self.reception.received.len()) + 1
     }
 
     fn start(&self) -> usize {
@@ -93,20 +93,15 @@ impl Map for Trellis<'_> {
     }
 
     fn finish(&self) -> usize {
-        place_of(self.count, self.received.len())
+        place_of(self.count, self.reception.received.len())
     }
 
     fn estimate(&self, place: usize) -> Option<u32> {
         let bits = place % COLUMNS;
-        if bits > self.received.len() {
+        if bits > self.reception.received.len() {
             return None;
         }
-        let estimate = self.ahead[bits];
-        if estimate == NONE {
-            None
-        } else {
-            Some(estimate)
-        }
+        read(self.ahead[bits])
     }
 
     fn edge_count(&self, place: usize) -> usize {

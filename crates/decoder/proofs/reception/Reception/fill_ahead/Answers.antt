@@ -4,12 +4,12 @@ use Rattle.codetable.specs.Tables.{words}
 use Rattle.softvalues.specs.Received.{values}
 use Rattle.decoder.specs.Estimates.{estimate, written}
 use Rattle.decoder.specs.Laws.{estimate_end}
-use Rattle.decoder.proofs.ahead.fill_ahead.Goals as goal
+use Rattle.decoder.proofs.reception.Reception.fill_ahead.Goals as goal
 
 pub loop-j-init : goal.loop-j-init
 loop-j-init c =
-    let ws = words c.args.table.now in
-    let vs = values c.args.received.now in
+    let ws = words c.args.self.now.table.now in
+    let vs = values c.args.self.now.received.now in
     let ahead = c.args.ahead.now in
     let len = c.len-len.result in (
       λ i low high.
