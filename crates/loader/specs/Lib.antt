@@ -1,3 +1,4 @@
 pub mod Sheets
 pub mod Held
 pub mod Histories
+pub mod Loaded

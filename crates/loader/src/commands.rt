@@ -30,7 +30,8 @@ pub enum Command<Q> {
     Undo,
 }
 
-// What a command answers.
+// What a command answers. A `Result` of one outcome would not tell a refused load from another refused command, and each
+// definition of an answer in specs/ would have a case more.
 #[derive(Clone, Copy)]
 pub enum Answer {
     Done(Result<(), Refusal>),

@@ -1,9 +1,10 @@
 // The loader: a table, a take and a pattern memory, changed by commands.
 #![tactic(auto)]
 
-ghost use Rattle.std.specs.Prelude.{◌≡◌};
+ghost use Rattle.std.specs.Prelude.{◌≡◌, Some};
 ghost use Rattle.loader.specs.Sheets.{Measures, Works, blank, word, weigh, drop, bit, wipe, load, undo};
 ghost use Rattle.loader.specs.Held.{sheet};
+ghost use Rattle.loader.specs.Loaded.{loaded_text};
 
 use codetable::CodeTable;
 use decoder::{WordList, decode};
@@ -12,6 +13,7 @@ use memory::Patterns;
 use queue::Queue;
 use refusal::{MemoryFault, Refusal};
 use softvalues::SoftValues;
+use std::fmt;
 
 pub mod commands;
 
@@ -35,6 +37,21 @@ pub struct Loaded {
     pub waiting: usize,
 }
 
+// The four numbers, in order, with spaces between them.
+impl fmt::Display for Loaded {
+    ghost output = { λ d. Some (loaded_text d) };
+
+    fn fmt<W: fmt::Write>(&self, f: &mut fmt::Formatter<W>) -> fmt::Result {
+        let Loaded {
+            metric,
+            changed,
+            opened,
+            waiting,
+        } = self;
+        write!(f, "{metric} {changed} {opened} {waiting}")
+    }
+}
+
 impl Loader {
     // A loader without words and soft values, with a pattern of length 0 and nothing to undo.
     pub fn new() -> Loader
@@ -52,32 +69,28 @@ impl Loader {
     pub fn enter_word(&mut self, len: usize, value: u32) -> Result<(), Refusal>
         ensures works { Works (sheet self.old) (word len value result) (sheet self.new) }
     {
-        self.table.push(len, value)?;
-        Ok(())
+        self.table.push(len, value).map_err(Refusal::from)
     }
 
     // WEIGH: sets the weight of a word.
     pub fn set_weight(&mut self, number: usize, weight: u16) -> Result<(), Refusal>
         ensures works { Works (sheet self.old) (weigh number weight result) (sheet self.new) }
     {
-        self.table.set_weight(number, weight)?;
-        Ok(())
+        self.table.set_weight(number, weight).map_err(Refusal::from)
     }
 
     // DROP: removes the last word. The stored steps keep their numbers.
     pub fn drop_word(&mut self) -> Result<(), Refusal>
         ensures works { Works (sheet self.old) (drop result) (sheet self.new) }
     {
-        self.table.pop()?;
-        Ok(())
+        self.table.pop().map_err(Refusal::from)
     }
 
     // BIT: adds a soft value.
     pub fn add_value(&mut self, value: i8) -> Result<(), Refusal>
         ensures works { Works (sheet self.old) (bit value result) (sheet self.new) }
     {
-        self.received.push(value)?;
-        Ok(())
+        self.received.push(value).map_err(Refusal::from)
     }
 
     // WIPE: empties the take.
@@ -112,11 +125,8 @@ impl Loader {
     pub fn undo(&mut self) -> Result<(), Refusal>
         ensures works { Works (sheet self.old) (undo result) (sheet self.new) }
     {
-        let Some(earlier) = self.earlier else {
-            return Err(Refusal::Memory(MemoryFault::Nothing));
-        };
+        let earlier = self.earlier.take().ok_or(MemoryFault::Nothing)?;
         self.patterns.store(earlier);
-        self.earlier = None;
         Ok(())
     }
 

@@ -10,7 +10,11 @@ use decoder::WordList;
 use loader::{Loaded, Loader};
 use queue::Queue;
 use refusal::Refusal;
-use wordfile::{Entry, read_word};
+use wordfile::Entry;
+
+mod line;
+
+pub use line::{Line, Report};
 
 // What an accepted word answers: nothing more, the numbers of a load with the steps that it stores, or a free distance.
 #[derive(Clone, Copy)]
@@ -31,13 +35,11 @@ pub struct PlacedRefusal {
 fn plain(answer: Result<(), Refusal>) -> Result<Outcome, Refusal>
     ensures outcome { result ≡ as_outcome answer }
 {
-    match answer {
-        Ok(()) => Ok(Outcome::Done),
-        Err(refusal) => Err(refusal),
-    }
+    answer.map(|()| Outcome::Done)
 }
 
 // LOAD, with the steps that it stores.
+// By rule queue, costs and estimates are lent one by one; of a struct each call would also have to ensure the same three loans.
 fn load_words<Q: Queue>(
     loader: &mut Loader,
     count: u8,
@@ -47,43 +49,38 @@ fn load_words<Q: Queue>(
 ) -> Result<Outcome, Refusal>
     ensures obeys { Obeys (Entry.Load count) (sheet loader.old) (lent (Q.model queue.old) (Q.model queue.new) costs.old costs.new ahead.old ahead.new) result (sheet loader.new) }
 {
-    match loader.load(usize::from(count), queue, costs, ahead) {
-        Ok(loaded) => Ok(Outcome::Loaded(loaded, loader.patterns.current())),
-        Err(refusal) => Err(refusal),
-    }
+    let loaded = loader.load(usize::from(count), queue, costs, ahead)?;
+    Ok(Outcome::Loaded(loaded, loader.patterns.current()))
 }
 
 // END, with the free distance of the table.
 fn measure<Q: Queue>(loader: &Loader, queue: &mut Q, costs: &mut [u32]) -> Result<Outcome, Refusal>
     ensures measures { OfDistance result (λ x. Measures (sheet loader.now) (Q.model queue.old) (Q.model queue.new) costs.old costs.new x) }
 {
-    match loader.free_distance(queue, costs) {
-        Ok(distance) => Ok(Outcome::Distance(distance)),
-        Err(refusal) => Err(refusal),
-    }
+    loader.free_distance(queue, costs).map(Outcome::Distance)
 }
 
 // Does what an entry says.
 fn obey<Q: Queue>(
     loader: &mut Loader,
-    said: &Entry,
+    entry: Entry,
     queue: &mut Q,
     costs: &mut [u32],
     ahead: &mut [u32],
 ) -> Result<Outcome, Refusal>
-    ensures obeys { Obeys said.now (sheet loader.old) (lent (Q.model queue.old) (Q.model queue.new) costs.old costs.new ahead.old ahead.new) result (sheet loader.new) }
+    ensures obeys { Obeys entry (sheet loader.old) (lent (Q.model queue.old) (Q.model queue.new) costs.old costs.new ahead.old ahead.new) result (sheet loader.new) }
 {
-    match said {
+    match entry {
         Entry::End => measure(loader, queue, costs),
-        Entry::Word { len, value } => plain(loader.enter_word(usize::from(*len), *value)),
-        Entry::Weigh { number, weight } => plain(loader.set_weight(usize::from(*number), *weight)),
+        Entry::Word { len, value } => plain(loader.enter_word(usize::from(len), value)),
+        Entry::Weigh { number, weight } => plain(loader.set_weight(usize::from(number), weight)),
         Entry::Drop => plain(loader.drop_word()),
-        Entry::Bit(value) => plain(loader.add_value(*value)),
+        Entry::Bit(value) => plain(loader.add_value(value)),
         Entry::Wipe => {
             loader.wipe();
             Ok(Outcome::Done)
         }
-        Entry::Load(count) => load_words(loader, *count, queue, costs, ahead),
+        Entry::Load(count) => load_words(loader, count, queue, costs, ahead),
         Entry::Undo => plain(loader.undo()),
     }
 }
@@ -100,14 +97,9 @@ pub fn follow_word<Q: Queue>(
 ) -> Result<Outcome, PlacedRefusal>
     ensures follows { Follows place word (sheet loader.old) (lent (Q.model queue.old) (Q.model queue.new) costs.old costs.new ahead.old ahead.new) result (sheet loader.new) }
 {
-    match read_word(word) {
-        Ok(entry) => match obey(loader, &entry, queue, costs, ahead) {
-            Ok(outcome) => Ok(outcome),
-            Err(refusal) => Err(PlacedRefusal { place, refusal }),
-        },
-        Err(fault) => Err(PlacedRefusal {
-            place,
-            refusal: Refusal::from(fault),
-        }),
-    }
+    let entry = Entry::try_from(word).map_err(|fault| PlacedRefusal {
+        place,
+        refusal: Refusal::from(fault),
+    })?;
+    obey(loader, entry, queue, costs, ahead).map_err(|refusal| PlacedRefusal { place, refusal })
 }

@@ -1,13 +1,14 @@
 -- What a word says, from its bits: the one entry of good form that stands for it, if there is one.
-use Rattle.std.proofs.Common.{◌≡◌, ℕ, zero, suc, ◌/◌, ◌%◌, ◌^◌, ◌<◌, ℤ, pos, negsuc, sym, refl, ap, ◌∙◌, subst, arith, w8, SFits, to_z, of_z}
+use Rattle.std.proofs.Common.{◌≡◌, ℕ, zero, suc, ◌/◌, ◌%◌, ◌^◌, ◌<◌, ℤ, pos, negsuc, Ok, Err, inl, sym, refl, ap, ◌∙◌, subst, arith, w8, SFits, to_z, of_z}
 use lib.Bits.{bit_and}
 use Rattle.std.proofs.lemmas.Nat.{and_mask, shr-shr}
 use Rattle.std.proofs.lemmas.Int.{ints, to_z-of_z, of_z-to_z}
+use Rattle.refusal.specs.declared.FileFault.TheVariants.{BadForm}
 use Rattle.wordfile.specs.declared.Kind.{Kind}
 use Rattle.wordfile.specs.declared.Kind.TheVariants as kind
 use Rattle.wordfile.specs.declared.Entry.{Entry}
 use Rattle.wordfile.specs.declared.Entry.TheVariants.{End, Word, Weigh, Drop, Bit, Wipe, Load, Undo}
-use Rattle.wordfile.specs.Entries.{kind_number, kind_of_entry, twos_complement, entry_bits, entry_word, InByte, Formed, Says, zero_bits}
+use Rattle.wordfile.specs.Entries.{kind_number, kind_of_entry, twos_complement, entry_bits, entry_word, InByte, Formed, Says, Reads, zero_bits}
 use Rattle.wordfile.proofs.Masks.{and_field}
 
 -- the kind of a number
@@ -145,20 +146,20 @@ says_made kind.Undo w is z = record { formed = tt; stands = omega (arith, and_ma
 
 -- what is read of a word of kind k, where z is the mask of that kind
 module _ (w z : ℕ) (k : Kind) (is : kind_number k ≡ w / 2 ^ 29) (mask : z ≡ zero_bits k) where
-  pub refused : (bit_and w z ≡ 0 → ⊥) → (e : Entry) → Says w e → ⊥
-  refused stray e s = stray (ap (bit_and w) mask ∙ said_clear k w is e s)
+  pub refused : (bit_and w z ≡ 0 → ⊥) → Reads w (Err BadForm)
+  refused stray =
+      let none : (e : Entry) → Says w e → ⊥ = λ e s. stray (ap (bit_and w) mask ∙ said_clear k w is e s) in
+      record { answer = (inl (none, refl), tt); unique = λ e s. absurd (none e s) }
 
   -- at the arm of the kind v
   module _ (v : Kind) (clear : bit_and w z ≡ 0) (arm : k ≡ v) (e : Entry) (same : e ≡ made v w) where
     whole : e ≡ made k w
     whole = same ∙ ap (λ (x : Kind). made x w) (sym arm)
 
-    -- it is said, and nothing else is
-    pub accepted : Says w e × ((x : Entry) → Says w x → e ≡ x)
-    accepted = (
-      subst (Says w) (sym whole) (says_made k w is (ap (bit_and w) (sym mask) ∙ clear)),
-      λ x s. whole ∙ said_made k w is x s,
-    )
+    pub accepted : Reads w (Ok e)
+    accepted =
+        let says : Says w e = subst (Says w) (sym whole) (says_made k w is (ap (bit_and w) (sym mask) ∙ clear)) in
+        record { answer = ((λ none. none e says, tt), says); unique = λ x s. ap Ok (whole ∙ said_made k w is x s) }
 
 -- the parts of an entry by masks and shifts
 pub masked_word : (w : ℕ) → Word (bit_and (w / 2 ^ 24) 0x1f) (bit_and w 0xffffff) ≡ made kind.Word w

@@ -1,7 +1,9 @@
 -- The words of a file and what they say: 32 bits each, of which the top three are the kind.
-use Rattle.std.specs.Prelude.{◌≡◌, ℕ, suc, ◌+◌, ◌-◌, ◌*◌, ◌^◌, ◌<◌, List, [], ◌∷◌, ℤ, pos, negsuc, codes}
+use Rattle.std.specs.Prelude.{◌≡◌, ℕ, suc, ◌+◌, ◌-◌, ◌*◌, ◌^◌, ◌<◌, List, [], ◌∷◌, ℤ, pos, negsuc, Ok, Result, codes}
 use Rattle.refusal.specs.Refusals.{bad_form}
-use Rattle.refusal.specs.Checks.{Check}
+use Rattle.refusal.specs.Checks.{Check, Judged}
+use Rattle.refusal.specs.declared.FileFault.{FileFault}
+use Rattle.refusal.specs.declared.Refusal.TheVariants.{File}
 use Rattle.wordfile.specs.declared.Kind.{Kind}
 use Rattle.wordfile.specs.declared.Kind.TheVariants as kind
 use Rattle.wordfile.specs.declared.Entry.{Entry}
@@ -82,6 +84,11 @@ pub record Says (word : ℕ) (e : Entry) : Type 0 where
 -- what is checked before a word is read: it is refused if it says nothing, which is so if it has a one where a zero is due
 abbrev pub form_checks : ℕ → List Check
 form_checks word = ((e : Entry) → Says word e → ⊥, bad_form) ∷ []
+
+-- What reading a word answers. `unique`: the entry that a word says is the only one that it says.
+pub record Reads (word : ℕ) (r : Result Entry FileFault) : Type 0 where
+  pub answer : Judged (form_checks word) File r (λ e. Says word e) (λ _. Unit {0})
+  pub unique : (e : Entry) → Says word e → r ≡ Ok e
 
 -- the bits that are zero in every word of a kind
 abbrev pub zero_bits : Kind → ℕ

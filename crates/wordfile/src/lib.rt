@@ -1,11 +1,9 @@
 // The words of a file: 32 bits each, four bytes with the highest first. The top three bits are the kind.
 #![tactic(auto)]
 
-ghost use Rattle.std.specs.Prelude.{◌≡◌, ◌/◌, ◌^◌, Some, Ok};
+ghost use Rattle.std.specs.Prelude.{◌≡◌, ◌/◌, ◌^◌, Some};
 ghost use Rattle.std.specs.List.{slice_get};
-ghost use Rattle.refusal.specs.Checks.{Judged};
-ghost use Rattle.refusal.specs.declared.Refusal.TheVariants.{File};
-ghost use Rattle.wordfile.specs.Entries.{kind_number, kind_name, zero_bits, form_checks, Says};
+ghost use Rattle.wordfile.specs.Entries.{kind_number, kind_name, zero_bits, Reads};
 ghost use Rattle.wordfile.specs.Words.{word_in, words};
 
 use refusal::FileFault;
@@ -62,18 +60,20 @@ impl fmt::Display for Kind {
 }
 
 // The kind of a word. One of bad form has a kind too.
-pub fn kind_of(word: u32) -> Kind
-    ensures kind { kind_number result ≡ word / 2 ^ 29 }
-{
-    match word >> 29 {
-        0 => Kind::End,
-        1 => Kind::Word,
-        2 => Kind::Weigh,
-        3 => Kind::Drop,
-        4 => Kind::Bit,
-        5 => Kind::Wipe,
-        6 => Kind::Load,
-        _ => Kind::Undo,
+impl From<u32> for Kind {
+    ghost from_gives = { λ word kind. kind_number kind ≡ word / 2 ^ 29 };
+
+    fn from(word: u32) -> Kind {
+        match word >> 29 {
+            0 => Kind::End,
+            1 => Kind::Word,
+            2 => Kind::Weigh,
+            3 => Kind::Drop,
+            4 => Kind::Bit,
+            5 => Kind::Wipe,
+            6 => Kind::Load,
+            _ => Kind::Undo,
+        }
     }
 }
 
@@ -91,30 +91,33 @@ fn zero_bits(kind: Kind) -> u32
 }
 
 // Reads a word. One with a one where its kind has a zero is refused.
-pub fn read_word(word: u32) -> Result<Entry, FileFault>
-    ensures answer { Judged (form_checks word) File result (λ e. Says word e) (λ _. Unit {0}) }
-    ensures unique { (e : Entry) → Says word e → result ≡ Ok e }
-{
-    let kind = kind_of(word);
-    if word & zero_bits(kind) != 0 {
-        return Err(FileFault::BadForm);
+impl TryFrom<u32> for Entry {
+    type Error = FileFault;
+
+    ghost try_from_gives = { Reads };
+
+    fn try_from(word: u32) -> Result<Entry, FileFault> {
+        let kind = Kind::from(word);
+        if word & zero_bits(kind) != 0 {
+            return Err(FileFault::BadForm);
+        }
+        Ok(match kind {
+            Kind::End => Entry::End,
+            Kind::Word => Entry::Word {
+                len: (word >> 24 & 0x1f) as u8,
+                value: word & 0x00ff_ffff,
+            },
+            Kind::Weigh => Entry::Weigh {
+                number: (word >> 24 & 0x1f) as u8,
+                weight: (word & 0xffff) as u16,
+            },
+            Kind::Drop => Entry::Drop,
+            Kind::Bit => Entry::Bit(((word & 0xff) as u8).cast_signed()),
+            Kind::Wipe => Entry::Wipe,
+            Kind::Load => Entry::Load((word & 0x3f) as u8),
+            Kind::Undo => Entry::Undo,
+        })
     }
-    Ok(match kind {
-        Kind::End => Entry::End,
-        Kind::Word => Entry::Word {
-            len: (word >> 24 & 0x1f) as u8,
-            value: word & 0x00ff_ffff,
-        },
-        Kind::Weigh => Entry::Weigh {
-            number: (word >> 24 & 0x1f) as u8,
-            weight: (word & 0xffff) as u16,
-        },
-        Kind::Drop => Entry::Drop,
-        Kind::Bit => Entry::Bit(((word & 0xff) as u8).cast_signed()),
-        Kind::Wipe => Entry::Wipe,
-        Kind::Load => Entry::Load((word & 0x3f) as u8),
-        Kind::Undo => Entry::Undo,
-    })
 }
 
 // The word at a place, counted in words, or none if the bytes stop before its end.
@@ -122,11 +125,8 @@ pub fn word_at(bytes: &[u8], place: usize) -> Option<u32>
     ensures found { result ≡ word_in bytes.now place }
     ensures listed { result ≡ slice_get (words bytes.now) place }
 {
-    if place >= bytes.len() / 4 {
-        return None;
-    }
-    let at = 4 * place;
-    Some(u32::from_be_bytes([bytes[at], bytes[at + 1], bytes[at + 2], bytes[at + 3]]))
+    let (words, _) = bytes.as_chunks::<4>();
+    words.get(place).map(|word| u32::from_be_bytes(*word))
 }
 
 #[cfg(test)]
@@ -135,13 +135,13 @@ mod tests {
     use std::process::Abort;
 
     fn says(rt: &impl Abort, word: u32, kind: Kind, entry: Entry) {
-        assert_eq!(rt; kind_of(word), kind);
-        assert_eq!(rt; read_word(word), Ok(entry));
+        assert_eq!(rt; Kind::from(word), kind);
+        assert_eq!(rt; Entry::try_from(word), Ok(entry));
     }
 
     fn refused(rt: &impl Abort, word: u32, kind: Kind) {
-        assert_eq!(rt; kind_of(word), kind);
-        assert_eq!(rt; read_word(word), Err(FileFault::BadForm));
+        assert_eq!(rt; Kind::from(word), kind);
+        assert_eq!(rt; Entry::try_from(word), Err(FileFault::BadForm));
     }
 
     #[test]

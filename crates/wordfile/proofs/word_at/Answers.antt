@@ -1,15 +1,15 @@
-use Rattle.std.proofs.Common.{Some, sym, ap, ◌∙◌, arith}
-use Rattle.wordfile.proofs.Listed.{word_whole, word_cut, word_listed}
+use Rattle.std.proofs.Common.{◌≡◌, arith, ◌∙◌}
+use Rattle.std.specs.List.{slice_get}
+use Rattle.std.proofs.lemmas.Grind.{common_steps}
+use Rattle.std.proofs.lemmas.Option.{gets}
+use Rattle.wordfile.specs.Words.{words}
+use Rattle.wordfile.proofs.Listed.{listed_of_chunks, word_listed}
 use Rattle.wordfile.proofs.word_at.Goals as goal
-
-pub returns-then-place-bytes : goal.returns-then-place-bytes
-returns-then-place-bytes c =
-    let bs = c.args.bytes.now in
-    let none = sym (word_cut bs c.args.place (omega arith)) in
-    record { found = none; listed = none ∙ sym (word_listed bs c.args.place) }
 
 pub returns : goal.returns
 returns c =
     let bs = c.args.bytes.now in
-    let some = ap Some c.from_be_bytes.ensures ∙ sym (word_whole bs c.args.place (omega arith)) in
-    record { found = some; listed = some ∙ sym (word_listed bs c.args.place) }
+    let k = c.args.place in
+    let of_chunks = listed_of_chunks bs k in
+    let listed : c.map.result ≡ slice_get (words bs) k = grind (arith, common_steps, gets, of_chunks) in
+    record { found = listed ∙ word_listed bs k; listed = listed }

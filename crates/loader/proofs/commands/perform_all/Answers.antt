@@ -1,5 +1,4 @@
-use Rattle.std.proofs.Common.{◌≡◌, ◌+◌, List, [], take, set, vec_items, sym, refl, ◌∙◌, subst, arith}
-use Rattle.std.proofs.lemmas.List.{take_all}
+use Rattle.std.proofs.Common.{◌+◌, List, [], set, vec_items, sym, refl, ◌∙◌, subst, arith}
 use Rattle.loader.specs.declared.commands.Answer.{Answer}
 use Rattle.loader.specs.declared.commands.Command.{Command}
 use Rattle.loader.specs.Held.{sheet}
@@ -19,13 +18,6 @@ loop-command-init g c =
       },
     )
 
-pub push_reserved-requires : goal.push_reserved-requires
-push_reserved-requires g c =
-    let len = c.loop-command.invariant.0 in
-    let cap = c.loop-command.invariant.1 in
-    let room = c.if-capacity-commands.false in
-    omega (arith, c.clear.ensures.capacity, c.capacity.ensures, c.loop-command-test.true)
-
 pub loop-command-preserved : goal.loop-command-preserved
 loop-command-preserved g c =
     let inv = c.loop-command.invariant in
@@ -44,19 +36,3 @@ loop-command-preserved g c =
       c.push_reserved.ensures.capacity ∙ inv.1,
       subst (λ (l : List Answer). Sofar g.Q.Queue.model blank before (set now i d) l (i + 1) u) (sym c.push_reserved.ensures.items) (sofar_more g.Q.Queue.model blank t u before now (vec_items c.loop-command.answers) i item d a inv.2 (omega arith) (omega arith) c.command-item.is acts),
     )
-
-pub returns : goal.returns
-returns g c =
-    let inv = c.loop-command.invariant in
-    let before = c.args.commands.now in
-    let now = c.loop-command.commands in
-    let end = c.loop-command-test.false in
-    let long = c.loop-command.auto.commands in
-    let first : take c.loop-command.command-index before ≡ before = take_all c.loop-command.command-index before (omega arith) in
-    let second : take c.loop-command.command-index now ≡ now = take_all c.loop-command.command-index now (omega arith) in
-    record {
-      history = (
-        omega (arith, c.if-capacity-commands.false, c.capacity.ensures),
-        subst (λ (l : List (Command g.row.Q.Denot)). History g.Q.Queue.model blank l now (vec_items c.loop-command.answers) (sheet c.loop-command.loader)) first (subst (λ (l : List (Command g.row.Q.Denot)). History g.Q.Queue.model blank (take c.loop-command.command-index before) l (vec_items c.loop-command.answers) (sheet c.loop-command.loader)) second inv.2.done),
-      );
-    }
