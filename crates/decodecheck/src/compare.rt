@@ -2,85 +2,73 @@
 use crate::memory::Memory;
 use crate::places::{Places, trellis_size};
 use crate::reference::{Best, Case, best_list};
-use anyhow::anyhow;
-use decoder::{Decoded, WordList};
+use anyhow::{bail, ensure};
+use decoder::Decoded;
 use queue::Queue;
 use refusal::SearchFault;
 use std::alloc::{AllocError, Global};
 
-// What the rules say of a case: the best list, if one fits, and the places of the trellis.
+// What the rules say of a case whose count is allowed: the best list, if one fits, and the places of the trellis.
 #[derive(Drop)]
-pub enum Expected {
-    BadCount,
-    Searched(Option<Best>, Places),
+pub struct Expected {
+    pub best: Option<Best>,
+    pub places: Places,
 }
 
 impl Expected {
-    // Tries every list of a case, and visits every place.
-    pub(crate) fn new(alloc: Global, case: &Case) -> Result<Expected, AllocError> {
+    // Tries every list of a case, and visits every place; none if the count is not allowed.
+    pub(crate) fn new(alloc: Global, case: &Case) -> Result<Option<Expected>, AllocError> {
         if case.count < 1 || case.count > 32 {
-            return Ok(Expected::BadCount);
+            return Ok(None);
         }
         let best = best_list(alloc, case)?;
-        let limit = match &best {
-            Some(best) => Some(best.fitting.metric),
-            None => None,
-        };
+        let limit = best.as_ref().map(|best| best.fitting.metric);
         let places = Places::new(alloc, case, limit)?;
-        Ok(Expected::Searched(best, places))
-    }
-
-    // The memory that a call leaves.
-    fn memory(&self, alloc: Global, case: &Case, spare: usize) -> Result<Memory, AllocError> {
-        let mut memory = Memory::enough(alloc, case, spare)?;
-        if let Expected::Searched(_, places) = self {
-            memory.write(case, places);
-        }
-        Ok(memory)
-    }
-
-    // How many places the queue holds after a call, from how many it held before.
-    fn held(&self, before: usize) -> usize {
-        match self {
-            Expected::BadCount => before,
-            Expected::Searched(_, places) => places.tally().1,
-        }
+        Ok(Some(Expected { best, places }))
     }
 }
 
-fn same_list(list: &WordList, expected: &[u8]) -> bool {
-    for (i, k) in expected.iter().enumerate() {
-        if list.get(i) != Some(*k) {
-            return false;
-        }
+// The memory that a call leaves.
+fn expected_memory(
+    alloc: Global,
+    case: &Case,
+    expected: Option<&Expected>,
+    spare: usize,
+) -> Result<Memory, AllocError> {
+    let mut memory = Memory::enough(alloc, case, spare)?;
+    if let Some(expected) = expected {
+        memory.write(case, &expected.places);
     }
-    list.len() == expected.len()
+    Ok(memory)
 }
 
 fn check_decoded(decoded: &Decoded, best: &Best, places: &Places) -> anyhow::Result<()> {
-    if decoded.metric != best.fitting.metric {
-        return Err(anyhow!("the metric differs"));
-    }
-    if decoded.changed != best.fitting.changed {
-        return Err(anyhow!("the number of changed bits differs"));
-    }
-    if !same_list(&decoded.list, &best.fitting.list) {
-        return Err(anyhow!("the list differs"));
-    }
-    if (decoded.opened, decoded.waiting) != places.tally() {
-        return Err(anyhow!("the number of opened or of waiting places differs"));
-    }
+    ensure!(decoded.metric == best.fitting.metric, "the metric differs");
+    ensure!(
+        decoded.changed == best.fitting.changed,
+        "the number of changed bits differs"
+    );
+    ensure!(
+        decoded.list.as_slice() == best.fitting.list.as_slice(),
+        "the list differs"
+    );
+    ensure!(
+        decoded.opened == places.opened() && decoded.waiting == places.waiting(),
+        "the number of opened or of waiting places differs"
+    );
     Ok(())
 }
 
-fn check_answer(answer: &Result<Decoded, SearchFault>, expected: &Expected) -> anyhow::Result<()> {
-    match (answer, expected) {
-        (Ok(decoded), Expected::Searched(Some(best), places)) => check_decoded(
-            decoded, best, places,
-        ),
-        (Err(SearchFault::NoFit), Expected::Searched(None, _)) => Ok(()),
-        (Err(SearchFault::BadCount), Expected::BadCount) => Ok(()),
-        _ => Err(anyhow!("the kind of answer differs")),
+fn check_answer(
+    answer: &Result<Decoded, SearchFault>,
+    expected: Option<&Expected>,
+) -> anyhow::Result<()> {
+    let best = expected.map(|expected| (expected.best.as_ref(), &expected.places));
+    match (answer, best) {
+        (Ok(decoded), Some((Some(best), places))) => check_decoded(decoded, best, places),
+        (Err(SearchFault::NoFit), Some((None, _))) => Ok(()),
+        (Err(SearchFault::BadCount), None) => Ok(()),
+        _ => bail!("the kind of answer differs"),
     }
 }
 
@@ -88,7 +76,7 @@ fn check_answer(answer: &Result<Decoded, SearchFault>, expected: &Expected) -> a
 pub(crate) fn check_call<Q: Queue>(
     alloc: Global,
     case: &Case,
-    expected: &Expected,
+    expected: Option<&Expected>,
     queue: &mut Q,
     spare: usize,
 ) -> anyhow::Result<Result<Decoded, SearchFault>> {
@@ -96,25 +84,28 @@ pub(crate) fn check_call<Q: Queue>(
     let mut memory = Memory::enough(alloc, case, spare)?;
     let answer = memory.decode(case, queue);
     check_answer(&answer, expected)?;
-    if !memory.equals(&expected.memory(alloc, case, spare)?) {
-        return Err(anyhow!("a cost or an estimate differs"));
-    }
-    if queue.held() != expected.held(before) {
-        return Err(anyhow!("the number of places in the queue differs"));
-    }
+    ensure!(
+        memory == expected_memory(alloc, case, expected, spare)?,
+        "a cost or an estimate differs"
+    );
+    ensure!(
+        queue.held() == expected.map_or(before, |expected| expected.places.waiting()),
+        "the number of places in the queue differs"
+    );
     Ok(answer)
 }
 
 // Decodes a case with memory that is too short, and sees that nothing is changed.
 fn check_refusal<Q: Queue>(case: &Case, queue: &mut Q, memory: &mut Memory) -> anyhow::Result<()> {
     let before = queue.held();
-    match memory.decode(case, queue) {
-        Err(SearchFault::Short) => {}
-        _ => return Err(anyhow!("the answer is not that memory is short")),
-    }
-    if !memory.is_untouched() || queue.held() != before {
-        return Err(anyhow!("a call with short memory changes something"));
-    }
+    ensure!(
+        matches!(memory.decode(case, queue), Err(SearchFault::Short)),
+        "the answer is not that memory is short"
+    );
+    ensure!(
+        memory.is_untouched() && queue.held() == before,
+        "a call with short memory changes something"
+    );
     Ok(())
 }
 

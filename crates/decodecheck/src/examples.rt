@@ -1,8 +1,8 @@
 // Cases as lines of text, and answers as text.
 use crate::reference::Case;
-use anyhow::anyhow;
+use anyhow::{Context, ensure};
 use codetable::CodeTable;
-use decoder::{Decoded, WordList};
+use decoder::Decoded;
 use refusal::SearchFault;
 use softvalues::SoftValues;
 use std::fmt;
@@ -11,13 +11,12 @@ use std::fmt;
 #[derive(Drop)]
 pub struct Answer(pub Result<Decoded, SearchFault>);
 
-// The value of a word in bits.
+// The value of a word in bits, as distancecheck reads it too: one expression is no plainer in a crate that both share.
 fn read_bits(text: &str) -> u32 {
-    let mut value: u32 = 0;
-    for bit in text.bytes() {
-        value = value.wrapping_mul(2) | u32::from(bit == b'1');
-    }
-    value
+    text.bytes().fold(
+        0,
+        |value: u32, bit| value.wrapping_mul(2) | u32::from(bit == b'1'),
+    )
 }
 
 // Adds a word in bits, with a weight behind a plus sign or none.
@@ -27,13 +26,11 @@ fn read_word(table: &mut CodeTable, text: &str) -> anyhow::Result<()> {
         None => (text, 0),
     };
     let k = table.len();
-    match (
-        table.push(bits.len(), read_bits(bits)),
-        table.set_weight(k, weight),
-    ) {
-        (Ok(()), Ok(())) => Ok(()),
-        _ => Err(anyhow!("a word is refused")),
-    }
+    ensure!(
+        table.push(bits.len(), read_bits(bits)).is_ok() && table.set_weight(k, weight).is_ok(),
+        "a word is refused"
+    );
+    Ok(())
 }
 
 fn read_table(text: &str) -> anyhow::Result<CodeTable> {
@@ -47,39 +44,23 @@ fn read_table(text: &str) -> anyhow::Result<CodeTable> {
 fn read_values(text: &str) -> anyhow::Result<SoftValues> {
     let mut received = SoftValues::new();
     for value in text.split_whitespace() {
-        if received.push(value.parse::<i8>()?).is_err() {
-            return Err(anyhow!("a value is refused"));
-        }
+        ensure!(
+            received.push(value.parse::<i8>()?).is_ok(),
+            "a value is refused"
+        );
     }
     Ok(received)
 }
 
 // A case on a line: the words of the table, the soft values and the number of words of a list, with colons between.
 pub(crate) fn read_case(line: &str) -> anyhow::Result<Case> {
-    let Some((words, rest)) = line.split_once(':') else {
-        return Err(anyhow!("no colon behind the words"));
-    };
-    let Some((values, count)) = rest.split_once(':') else {
-        return Err(anyhow!("no colon behind the values"));
-    };
+    let (words, rest) = line.split_once(':').context("no colon behind the words")?;
+    let (values, count) = rest.split_once(':').context("no colon behind the values")?;
     Ok(Case {
         table: read_table(words)?,
         received: read_values(values)?,
         count: count.trim().parse::<usize>()?,
     })
-}
-
-// Shows the numbers of a list's words, with dots between.
-fn show_list<W: fmt::Write>(list: &WordList, f: &mut fmt::Formatter<W>) -> fmt::Result {
-    for i in 0..list.len() {
-        if i > 0 {
-            f.write_str(".")?;
-        }
-        if let Some(k) = list.get(i) {
-            write!(f, "{k}")?;
-        }
-    }
-    Ok(())
 }
 
 impl fmt::Display for Answer {
@@ -95,9 +76,8 @@ impl fmt::Display for Answer {
                 } = decoded;
                 write!(
                     f,
-                    "metric {metric}, changed {changed}, opened {opened}, waiting {waiting}, list "
-                )?;
-                show_list(list, f)
+                    "metric {metric}, changed {changed}, opened {opened}, waiting {waiting}, list {list}"
+                )
             }
             Err(SearchFault::BadCount) => f.write_str("bad count"),
             Err(SearchFault::Short) => f.write_str("short"),

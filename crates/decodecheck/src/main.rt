@@ -2,56 +2,55 @@
 // rules say. Then it does the same for the cases on standard input, one to a line, and prints their answers.
 #![tactic(auto)]
 
+use crate::cases::Cases;
 use crate::compare::{Expected, check_call, check_short};
 use crate::examples::{Answer, read_case};
-use crate::random::Random;
+use crate::reference::Case;
 use crate::seen::Seen;
 use anyhow::anyhow;
+use queue::Queue;
 use queue::heap::Heap;
 use queue::strip::Strip;
 use std::alloc::Global;
 
+mod cases;
 mod compare;
 mod examples;
 mod memory;
 mod places;
-mod random;
 mod reference;
 mod seen;
 
 const CASES: usize = 4_000;
 
-// Says in which case and with which queue something differs.
-fn at_case<T: Drop>(
+// Compares a case by one queue: with memory to spare and, if its count is allowed, with memory that is too short.
+fn compare_case<Q: Queue>(
     alloc: Global,
-    number: usize,
-    queue: &str,
-    checked: anyhow::Result<T>,
-) -> anyhow::Result<T> {
-    match checked {
-        Ok(found) => Ok(found),
-        Err(fault) => Err(anyhow!(format!(in alloc; "case {number}, {queue}: {fault}")?)),
+    case: &Case,
+    expected: Option<&Expected>,
+    queue: &mut Q,
+    spare: usize,
+) -> anyhow::Result<()> {
+    let _ = check_call(alloc, case, expected, queue, spare)?;
+    if expected.is_some() {
+        check_short(alloc, case, queue)?;
     }
+    Ok(())
 }
 
-// Compares the pseudo-random cases, and counts what was met; stops at the first difference.
+// Compares the pseudo-random cases, and counts what was met; stops at the first difference, and says in which case and
+// with which queue it is.
 fn compare_cases(alloc: Global, heap: &mut Heap, strip: &mut Strip) -> anyhow::Result<Seen> {
-    let mut random = Random::new(1);
-    let mut seen = Seen::new();
-    for number in 0..CASES {
-        let case = random.case();
+    let mut seen = Seen::default();
+    for (number, case) in Cases::new(1).take(CASES).enumerate() {
         let spare = number % 3;
-        let expected = Expected::new(alloc, &case)?;
-        let by_heap = check_call(alloc, &case, &expected, heap, spare);
-        let _ = at_case(alloc, number, "heap", by_heap)?;
-        let by_strip = check_call(alloc, &case, &expected, strip, spare);
-        let _ = at_case(alloc, number, "strip", by_strip)?;
-        seen.note(&expected);
-        if let Expected::Searched(_, _) = expected {
-            at_case(alloc, number, "heap", check_short(alloc, &case, heap))?;
-            at_case(alloc, number, "strip", check_short(alloc, &case, strip))?;
-            seen.note_short(4);
-        }
+        let found = Expected::new(alloc, &case)?;
+        let expected = found.as_ref();
+        let by_heap = compare_case(alloc, &case, expected, heap, spare);
+        by_heap.map_err(|fault| anyhow!("case {number}, heap: {fault}"))?;
+        let by_strip = compare_case(alloc, &case, expected, strip, spare);
+        by_strip.map_err(|fault| anyhow!("case {number}, strip: {fault}"))?;
+        seen.note(expected);
     }
     Ok(seen)
 }
@@ -63,9 +62,9 @@ fn print_cases(rt: &HostRuntime, heap: &mut Heap, strip: &mut Strip) -> anyhow::
         let line = line?;
         let case = read_case(line.as_str())?;
         let expected = Expected::new(alloc, &case)?;
-        let answer = Answer(check_call(alloc, &case, &expected, heap, 0)?);
+        let answer = Answer(check_call(alloc, &case, expected.as_ref(), heap, 0)?);
         println!(rt; "{line}, heap: {answer}")?;
-        let answer = Answer(check_call(alloc, &case, &expected, strip, 0)?);
+        let answer = Answer(check_call(alloc, &case, expected.as_ref(), strip, 0)?);
         println!(rt; "{line}, strip: {answer}")?;
     }
     Ok(())

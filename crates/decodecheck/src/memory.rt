@@ -9,7 +9,7 @@ use std::alloc::{AllocError, Global};
 // What stands where nothing was written.
 const UNTOUCHED: u32 = 77;
 
-#[derive(Drop)]
+#[derive(PartialEq, Drop)]
 pub struct Memory {
     costs: Vec<u32>,
     ahead: Vec<u32>,
@@ -37,16 +37,10 @@ impl Memory {
     }
 
     pub(crate) fn is_untouched(&self) -> bool {
-        for cell in self.costs.iter().chain(&self.ahead) {
-            if *cell != UNTOUCHED {
-                return false;
-            }
-        }
-        true
-    }
-
-    pub(crate) fn equals(&self, other: &Memory) -> bool {
-        self.costs == other.costs && self.ahead == other.ahead
+        self.costs
+            .iter()
+            .chain(&self.ahead)
+            .all(|cell| *cell == UNTOUCHED)
     }
 
     pub(crate) fn decode<Q: Queue>(

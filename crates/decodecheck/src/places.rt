@@ -3,7 +3,7 @@ use crate::reference::Case;
 use codetable::Codeword;
 use std::alloc::{AllocError, Global};
 
-// What stands for no cost and no estimate in memory.
+// What stands for no cost and no estimate in memory: by rule the decoder is lent plain numbers.
 const NONE: u32 = u32::MAX;
 
 // One more than the most bits.
@@ -12,7 +12,7 @@ const COLUMNS: usize = 256;
 // A cost, or none, for each number of bits.
 type Row = Vec<Option<u32>>;
 
-// What becomes of a place, and at what cost.
+// What becomes of a place, and at what cost: there is a third case, so an Option of the cost would not tell all.
 #[derive(Clone, Copy)]
 enum State {
     Apart,
@@ -35,76 +35,55 @@ pub(crate) fn trellis_size(case: &Case) -> usize {
         .saturating_add(1)
 }
 
-fn lesser(a: Option<u32>, b: Option<u32>) -> Option<u32> {
-    match (a, b) {
-        (Some(a), Some(b)) => Some(a.min(b)),
-        _ => a.or(b),
-    }
-}
-
 // What a word adds to the metric, laid on the values from `at` on.
 fn share(case: &Case, word: Codeword, at: usize) -> u32 {
-    let mut sum = u32::from(word.weight);
-    for (i, behind) in (0..u32::from(word.len)).rev().enumerate() {
-        let bit = word.value.wrapping_shr(behind) % 2 == 1;
-        if let Some(magnitude) = case.against(at.saturating_add(i), bit) {
-            sum = sum.saturating_add(magnitude);
-        }
-    }
-    sum
+    (0..usize::from(word.len))
+        .filter_map(|i| case.against(at.saturating_add(i), word.bit(i)))
+        .fold(u32::from(word.weight), |sum, magnitude| {
+            sum.saturating_add(magnitude)
+        })
 }
 
-// The cost at so many bits with this word last, from the costs of one word less.
-fn by_word(case: &Case, before: &[Option<u32>], word: Codeword, bits: usize) -> Option<u32> {
-    let at = bits.checked_sub(usize::from(word.len))?;
-    let cost = (*before.get(at)?)?;
-    Some(cost.saturating_add(share(case, word, at)))
-}
-
-// The least cost at so many bits with any word last, from the costs of one word less.
-fn by_any_word(case: &Case, before: &[Option<u32>], bits: usize) -> Option<u32> {
-    let mut least = None;
-    for k in 0..case.table.len() {
-        if let Some(word) = case.table.word(k) {
-            least = lesser(least, by_word(case, before, word, bits));
-        }
-    }
-    least
+// The least cost that a word makes, from the costs without it. For a word, `lay` gives the number of bits without it,
+// and from which value on it is laid.
+fn least_by_word<F>(case: &Case, costs: &[Option<u32>], lay: F) -> Option<u32>
+where
+    F: Fn(Codeword) -> Option<(usize, usize)>,
+    requires callable { F.IsAlwaysCallable lay }
+{
+    case.table
+        .as_slice()
+        .iter()
+        .filter_map(|&word| {
+            let (bits, at) = lay(word)?;
+            let cost = costs.get(bits).copied().flatten()?;
+            Some(cost.saturating_add(share(case, word, at)))
+        })
+        .min()
 }
 
 // The least cost at each number of bits, from those of one word less.
 fn next_row(alloc: Global, case: &Case, before: &[Option<u32>]) -> Result<Row, AllocError> {
-    let mut row = Vec::new(alloc);
-    for bits in 0..=case.received.len() {
-        row.push(by_any_word(case, before, bits))?;
-    }
-    Ok(row)
-}
-
-// The least metric of words that fill the bits from `at` on with this word first, from the estimates behind it.
-fn with_word(case: &Case, later: &[Option<u32>], word: Codeword, at: usize) -> Option<u32> {
-    let cost = (*later.get(at.saturating_add(usize::from(word.len)))?)?;
-    Some(cost.saturating_add(share(case, word, at)))
-}
-
-// The least metric of words that fill the bits from `at` on with any word first, from the estimates behind it.
-fn with_any_word(case: &Case, later: &[Option<u32>], at: usize) -> Option<u32> {
-    let mut least = None;
-    for k in 0..case.table.len() {
-        if let Some(word) = case.table.word(k) {
-            least = lesser(least, with_word(case, later, word, at));
-        }
-    }
-    least
+    (0..=case.received.len())
+        .map(|bits| {
+            least_by_word(case, before, |word| {
+                let at = bits.checked_sub(usize::from(word.len))?;
+                Some((at, at))
+            })
+        })
+        .collect(alloc)
 }
 
 // The estimate of each number of bits, from the last to the first: no word fills what is left behind the last bit.
+// A loop writes by index, since each estimate is made from those behind it.
 fn estimate_all(alloc: Global, case: &Case) -> Result<Row, AllocError> {
     let len = case.received.len();
     let mut row = vec![in alloc; None; len]?;
     row.push(Some(0))?;
     for at in (0..len).rev() {
-        let least = with_any_word(case, &row, at);
+        let least = least_by_word(case, &row, |word| {
+            Some((at.saturating_add(usize::from(word.len)), at))
+        });
         if let Some(estimate) = row.get_mut(at) {
             *estimate = least;
         }
@@ -112,37 +91,45 @@ fn estimate_all(alloc: Global, case: &Case) -> Result<Row, AllocError> {
     Ok(row)
 }
 
-// The state of a place, from its least cost, the least cost by an opened place, its estimate and the limit.
-fn state_of(
-    least: Option<u32>,
-    reached: Option<u32>,
-    estimate: Option<u32>,
-    limit: Option<u32>,
-) -> State {
-    let Some(estimate) = estimate else {
-        return State::Apart;
-    };
-    if let Some(cost) = least {
-        if cost.saturating_add(estimate) <= limit.unwrap_or(NONE) {
+impl State {
+    // The state of a place, from its least cost, the least cost by an opened place, its estimate and the limit.
+    fn new(
+        least: Option<u32>,
+        reached: Option<u32>,
+        estimate: Option<u32>,
+        limit: Option<u32>,
+    ) -> State {
+        let Some(estimate) = estimate else {
+            return State::Apart;
+        };
+        if let Some(cost) = least
+            && cost.saturating_add(estimate) <= limit.unwrap_or(NONE)
+        {
             return State::Opened(cost);
         }
+        reached.map_or(State::Apart, State::Waiting)
     }
-    match reached {
-        Some(cost) => State::Waiting(cost),
-        None => State::Apart,
+
+    // The cost of a place that is opened.
+    fn opened(self) -> Option<u32> {
+        match self {
+            State::Opened(cost) => Some(cost),
+            State::Waiting(_) | State::Apart => None,
+        }
+    }
+
+    // The cost of a place that waits.
+    fn waiting(self) -> Option<u32> {
+        match self {
+            State::Waiting(cost) => Some(cost),
+            State::Opened(_) | State::Apart => None,
+        }
     }
 }
 
 // The costs of the opened places of a stage.
 fn opened_costs(alloc: Global, states: &[State]) -> Result<Row, AllocError> {
-    let mut row = Vec::new(alloc);
-    for state in states {
-        row.push(match *state {
-            State::Opened(cost) => Some(cost),
-            _ => None,
-        })?;
-    }
-    Ok(row)
+    states.iter().map(|state| state.opened()).collect(alloc)
 }
 
 // The states of a stage, from the least costs and the least costs by opened places.
@@ -153,25 +140,12 @@ fn stage_states(
     estimates: &[Option<u32>],
     limit: Option<u32>,
 ) -> Result<Vec<State>, AllocError> {
-    let mut states = Vec::new(alloc);
-    for ((least, reached), estimate) in least.iter().zip(reached).zip(estimates) {
-        states.push(state_of(*least, *reached, *estimate, limit))?;
-    }
-    Ok(states)
-}
-
-// How many places of a stage are opened, and how many wait.
-fn tally_stage(states: &[State]) -> (usize, usize) {
-    let mut opened: usize = 0;
-    let mut waiting: usize = 0;
-    for state in states {
-        match *state {
-            State::Opened(_) => opened = opened.saturating_add(1),
-            State::Waiting(_) => waiting = waiting.saturating_add(1),
-            State::Apart => {}
-        }
-    }
-    (opened, waiting)
+    least
+        .iter()
+        .zip(reached)
+        .zip(estimates)
+        .map(|((least, reached), estimate)| State::new(*least, *reached, *estimate, limit))
+        .collect(alloc)
 }
 
 impl Places {
@@ -197,25 +171,32 @@ impl Places {
         Ok(Places { estimates, stages })
     }
 
-    // How many places are opened, and how many wait.
-    pub(crate) fn tally(&self) -> (usize, usize) {
-        let mut opened: usize = 0;
-        let mut waiting: usize = 0;
-        for states in &self.stages {
-            let stage = tally_stage(states);
-            opened = opened.saturating_add(stage.0);
-            waiting = waiting.saturating_add(stage.1);
-        }
-        (opened, waiting)
+    // How many places have a cost of a kind.
+    fn tally<F: Fn(State) -> Option<u32>>(&self, kind: F) -> usize
+        requires callable { F.IsAlwaysCallable kind }
+    {
+        self.stages
+            .iter()
+            .flatten()
+            .filter_map(|state| kind(*state))
+            // No `count`: it would need a bound on how many places there are.
+            .fold(0, |count: usize, _| count.saturating_add(1))
+    }
+
+    // How many places are opened.
+    pub(crate) fn opened(&self) -> usize {
+        self.tally(|state| state.opened())
+    }
+
+    // How many places wait.
+    pub(crate) fn waiting(&self) -> usize {
+        self.tally(|state| state.waiting())
     }
 
     // The cost that stands at a place in memory.
     fn cost(&self, place: usize) -> Option<u32> {
-        match self.stages.get(place / COLUMNS)?.get(place % COLUMNS)? {
-            State::Opened(cost) => Some(*cost),
-            State::Waiting(cost) => Some(*cost),
-            State::Apart => None,
-        }
+        let state = self.stages.get(place / COLUMNS)?.get(place % COLUMNS)?;
+        state.opened().or(state.waiting())
     }
 
     // Writes the costs of the first places as a search leaves them.

@@ -2,6 +2,7 @@
 use codetable::{CodeTable, Codeword};
 use softvalues::SoftValues;
 use std::alloc::{AllocError, Global};
+use std::cmp::Ordering;
 
 // What is decoded: a table, what was received, and how many words a list has.
 #[derive(Drop)]
@@ -30,51 +31,41 @@ impl Case {
     // The magnitude of value i, if its hard bit is not `bit`.
     pub(crate) fn against(&self, i: usize, bit: bool) -> Option<u32> {
         let value = self.received.get(i)?.value();
-        if (value < 0) == bit {
-            None
-        } else {
-            Some(u32::from(value.unsigned_abs()))
-        }
+        ((value < 0) != bit).then_some(u32::from(value.unsigned_abs()))
     }
 }
 
-// Adds the bits of a word behind others.
-fn join_word(bits: &mut Vec<bool>, word: Codeword) -> Result<(), AllocError> {
-    for behind in (0..u32::from(word.len)).rev() {
-        bits.push(word.value.wrapping_shr(behind) % 2 == 1)?;
-    }
-    Ok(())
+// The words of a list.
+fn words_of(alloc: Global, table: &CodeTable, list: &[u8]) -> Result<Vec<Codeword>, AllocError> {
+    list.iter()
+        .filter_map(|k| table.word(usize::from(*k)))
+        .collect(alloc)
 }
 
-// The bits of a list's words, joined.
-fn join(alloc: Global, table: &CodeTable, list: &[u8]) -> Result<Vec<bool>, AllocError> {
+// The bits of words, joined.
+fn join(alloc: Global, words: &[Codeword]) -> Result<Vec<bool>, AllocError> {
     let mut bits = Vec::new(alloc);
-    for k in list {
-        if let Some(word) = table.word(usize::from(*k)) {
-            join_word(&mut bits, word)?;
-        }
+    for word in words {
+        bits.extend((0..usize::from(word.len)).map(|i| word.bit(i)))?;
     }
     Ok(bits)
 }
 
-// The sum of the weights of a list's words.
-fn weigh(table: &CodeTable, list: &[u8]) -> u32 {
-    let mut sum: u32 = 0;
-    for k in list {
-        if let Some(word) = table.word(usize::from(*k)) {
-            sum = sum.saturating_add(u32::from(word.weight));
-        }
-    }
-    sum
+// The sum of the weights of words.
+fn weigh(words: &[Codeword]) -> u32 {
+    words.iter().fold(0, |sum: u32, word| {
+        sum.saturating_add(u32::from(word.weight))
+    })
 }
 
 // A list with its metric, if its bits are as many as the values that were received.
 fn try_list(alloc: Global, case: &Case, list: &[u8]) -> Result<Option<Fitting>, AllocError> {
-    let bits = join(alloc, &case.table, list)?;
+    let words = words_of(alloc, &case.table, list)?;
+    let bits = join(alloc, &words)?;
     if bits.len() != case.received.len() {
         return Ok(None);
     }
-    let mut metric = weigh(&case.table, list);
+    let mut metric = weigh(&words);
     let mut changed: u32 = 0;
     for (i, bit) in bits.iter().enumerate() {
         if let Some(magnitude) = case.against(i, *bit) {
@@ -90,47 +81,39 @@ fn try_list(alloc: Global, case: &Case, list: &[u8]) -> Result<Option<Fitting>, 
     }))
 }
 
-// Whether a list has the lower word number at the last place where it differs from another.
+// Whether a list has the lower word number at the last place where it differs from another of its length.
 fn wins_tie(list: &[u8], other: &[u8]) -> bool {
-    for (a, b) in list.iter().zip(other).rev() {
-        if *a != *b {
-            return *a < *b;
-        }
-    }
-    false
+    list.iter().rev().lt(other.iter().rev())
 }
 
 // The better of the best so far and one more list.
 fn better(best: Option<Best>, next: Fitting) -> Best {
-    let Some(best) = best else {
+    let Some(Best { fitting, equals }) = best else {
         return Best {
             fitting: next,
             equals: 1,
         };
     };
-    if next.metric > best.fitting.metric {
-        return best;
+    match next.metric.cmp(&fitting.metric) {
+        Ordering::Less => Best {
+            fitting: next,
+            equals: 1,
+        },
+        Ordering::Equal if wins_tie(&next.list, &fitting.list) => Best {
+            fitting: next,
+            equals: equals.saturating_add(1),
+        },
+        Ordering::Equal => Best {
+            fitting,
+            equals: equals.saturating_add(1),
+        },
+        Ordering::Greater => Best { fitting, equals },
     }
-    let equals = if next.metric == best.fitting.metric {
-        best.equals.saturating_add(1)
-    } else {
-        1
-    };
-    let fitting = if equals == 1 || wins_tie(&next.list, &best.fitting.list) {
-        next
-    } else {
-        best.fitting
-    };
-    Best { fitting, equals }
 }
 
 // How many lists of `count` words there are.
 fn list_count(words: usize, count: usize) -> usize {
-    let mut lists: usize = 1;
-    for _ in 0..count {
-        lists = lists.saturating_mul(words);
-    }
-    lists
+    words.saturating_pow(u32::try_from(count).unwrap_or(u32::MAX))
 }
 
 // Moves on to the next list: the last place counts up first.

@@ -2,7 +2,7 @@
 use crate::compare::Expected;
 use std::fmt;
 
-#[derive(Drop)]
+#[derive(Default, Drop)]
 pub struct Seen {
     accepted: usize,
     tied: usize,
@@ -12,33 +12,24 @@ pub struct Seen {
 }
 
 impl Seen {
-    pub(crate) fn new() -> Seen {
-        Seen {
-            accepted: 0,
-            tied: 0,
-            unfit: 0,
-            bad: 0,
-            short: 0,
-        }
-    }
-
-    // Counts a case. A tie is a best list that others equal in metric.
-    pub(crate) fn note(&mut self, expected: &Expected) {
-        match expected {
-            Expected::BadCount => self.bad = self.bad.saturating_add(1),
-            Expected::Searched(None, _) => self.unfit = self.unfit.saturating_add(1),
-            Expected::Searched(Some(best), _) => {
-                self.accepted = self.accepted.saturating_add(1);
+    // Counts a case, and four calls with short memory if its count is allowed. A tie is a best list that others equal
+    // in metric.
+    pub(crate) fn note(&mut self, expected: Option<&Expected>) {
+        let Some(expected) = expected else {
+            self.bad = self.bad.saturating_add(1);
+            return;
+        };
+        self.short = self.short.saturating_add(4);
+        let count = match &expected.best {
+            None => &mut self.unfit,
+            Some(best) => {
                 if best.equals > 1 {
                     self.tied = self.tied.saturating_add(1);
                 }
+                &mut self.accepted
             }
-        }
-    }
-
-    // Counts calls with short memory.
-    pub(crate) fn note_short(&mut self, calls: usize) {
-        self.short = self.short.saturating_add(calls);
+        };
+        *count = count.saturating_add(1);
     }
 }
 

@@ -2,14 +2,16 @@
 // Then it sorts pseudo-random pairs by each queue, and compares the rows.
 #![tactic(auto)]
 
-use crate::calls::{Answer, Call, Random};
+use crate::calls::{Answer, Call, Calls};
 use crate::reference::Reference;
 use crate::seen::Seen;
-use anyhow::anyhow;
+use anyhow::ensure;
 use queue::Queue;
 use queue::heap::Heap;
 use queue::sorted::sort;
 use queue::strip::Strip;
+use std::alloc::Global;
+use std::array;
 
 mod calls;
 mod reference;
@@ -25,12 +27,9 @@ fn answer<Q: Queue>(queue: &mut Q, call: Call) -> Answer {
         Call::Held => Answer::Count(queue.held()),
         Call::Empty => {
             queue.empty();
-            Answer::Done
+            Answer::Done(Ok(()))
         }
-        Call::Offer(place, key) => match queue.offer(place, key) {
-            Ok(()) => Answer::Done,
-            Err(fault) => Answer::Refused(fault),
-        },
+        Call::Offer(place, key) => Answer::Done(queue.offer(place, key)),
         Call::Look => Answer::Found(queue.look()),
         Call::Take => Answer::Found(queue.take()),
     }
@@ -41,82 +40,74 @@ fn compare_calls(
     heap: &mut Heap,
     strip: &mut Strip,
     reference: &mut Reference,
-    random: &mut Random,
+    calls: &mut Calls,
 ) -> anyhow::Result<Seen> {
-    let mut seen = Seen::new();
+    let mut seen = Seen::default();
     for _ in 0..CALLS {
-        let call = random.call(reference.size());
+        let call = calls.call();
         seen.note(reference, call);
         let expected = reference.answer(call)?;
-        if answer(heap, call) != expected {
-            return Err(anyhow!("the heap's answer differs"));
-        }
-        if answer(strip, call) != expected {
-            return Err(anyhow!("the strip's answer differs"));
-        }
+        ensure!(answer(heap, call) == expected, "the heap's answer differs");
+        ensure!(
+            answer(strip, call) == expected,
+            "the strip's answer differs"
+        );
     }
     Ok(seen)
 }
 
-// The row that the reference gives for some pairs: how many it has, and its pairs in order.
+// The row that the reference gives for some pairs.
 fn expected_row(
+    alloc: Global,
     reference: &mut Reference,
     pairs: &[(usize, u32)],
-    row: &mut [(u32, usize)],
-) -> anyhow::Result<usize> {
+) -> anyhow::Result<Vec<(u32, usize)>> {
     let _ = reference.answer(Call::Empty)?;
-    for pair in pairs {
-        let _ = reference.answer(Call::Offer(pair.0, pair.1))?;
+    for (place, key) in pairs {
+        let _ = reference.answer(Call::Offer(*place, *key))?;
     }
-    for (i, cell) in row.iter_mut().enumerate() {
-        match reference.take() {
-            Some(found) => *cell = found,
-            None => return Ok(i),
-        }
-    }
-    Ok(row.len())
+    Ok(reference.sorted(alloc)?)
 }
 
-// Sorts by a queue, and compares the row with what is expected.
+// Sorts by a queue, and compares the row with what is expected. The rest of the row stays as it was.
 fn compare_sort<Q: Queue>(
     queue: &mut Q,
     pairs: &[(usize, u32)],
-    expected: &[(u32, usize); PAIRS],
-    count: usize,
+    expected: &[(u32, usize)],
 ) -> anyhow::Result<()> {
     let mut row = [(0, 0); PAIRS];
-    match sort(queue, pairs, &mut row) {
-        Ok(n) if n == count && row == *expected => Ok(()),
-        _ => Err(anyhow!("a sorted row differs")),
-    }
+    let sorted = sort(queue, pairs, &mut row) == Ok(expected.len());
+    let rest = row.strip_prefix(expected);
+    let agrees = rest.is_some_and(|rest| rest.iter().all(|pair| *pair == (0, 0)));
+    ensure!(sorted && agrees, "a sorted row differs");
+    Ok(())
 }
 
+// Sorts by each queue, and answers how long the row is.
 fn compare_sorts(
+    alloc: Global,
     heap: &mut Heap,
     strip: &mut Strip,
     reference: &mut Reference,
-    random: &mut Random,
+    calls: &mut Calls,
 ) -> anyhow::Result<usize> {
-    let mut pairs = [(0, 0); PAIRS];
-    for pair in pairs.iter_mut() {
-        *pair = (random.place(reference.size()), random.key());
-    }
-    let mut row = [(0, 0); PAIRS];
-    let count = expected_row(reference, &pairs, &mut row)?;
-    compare_sort(heap, &pairs, &row, count)?;
-    compare_sort(strip, &pairs, &row, count)?;
-    Ok(count)
+    let pairs: [(usize, u32); PAIRS] = array::from_fn(|_| calls.pair());
+    let row = expected_row(alloc, reference, &pairs)?;
+    compare_sort(heap, &pairs, &row)?;
+    compare_sort(strip, &pairs, &row)?;
+    Ok(row.len())
 }
 
 fn main(rt: HostRuntime) -> anyhow::Result<()> {
+    let alloc = rt.alloc();
     let mut heap = Heap::new();
     let mut strip = Strip::new();
-    let mut reference = Reference::new(rt.alloc(), heap.size());
-    let mut random = Random::new(1);
-    let seen = compare_calls(&mut heap, &mut strip, &mut reference, &mut random)?;
+    let mut reference = Reference::new(alloc, heap.size());
+    let mut calls = Calls::new(1, heap.size());
+    let seen = compare_calls(&mut heap, &mut strip, &mut reference, &mut calls)?;
     println!(rt; "{CALLS} calls: the answers of heap, strip and reference all agree")?;
     println!(rt; "{seen}")?;
-    let count = compare_sorts(&mut heap, &mut strip, &mut reference, &mut random)?;
+    let count = compare_sorts(alloc, &mut heap, &mut strip, &mut reference, &mut calls)?;
     println!(rt; "{PAIRS} pairs sorted into {count}: the rows of heap, strip and reference agree")?;
     Ok(())
 }

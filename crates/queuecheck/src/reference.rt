@@ -1,21 +1,21 @@
-// A plain queue to compare with: a list of the keys and places that are held, in no order.
-ghost use Rattle.std.specs.Prelude.{◌<◌, IfSome, vec_len};
-
+// A plain queue to compare with: a map from each place that is held to its key.
 use crate::calls::{Answer, Call};
 use refusal::QueueFault;
 use std::alloc::{AllocError, Global};
+use std::collections::BTreeMap;
 
+// It is no `Queue`: an offer may fail here for want of memory.
 #[derive(Drop)]
 pub struct Reference {
     size: usize,
-    held: Vec<(u32, usize)>,
+    held: BTreeMap<usize, u32>,
 }
 
 impl Reference {
-    pub(crate) fn new(heap: Global, size: usize) -> Reference {
+    pub(crate) fn new(alloc: Global, size: usize) -> Reference {
         Reference {
             size,
-            held: Vec::new(heap),
+            held: BTreeMap::new(alloc),
         }
     }
 
@@ -23,61 +23,53 @@ impl Reference {
         self.size
     }
 
-    // Where a place stands in the list.
-    fn find(&self, place: usize) -> Option<usize>
-        ensures within { IfSome result (λ i. i < vec_len self.now.held) }
-    {
-        for (i, pair) in self.held.iter().enumerate() {
-            if pair.1 == place {
-                return Some(i);
-            }
-        }
-        None
-    }
-
     // The key of a place, if it is held.
     pub(crate) fn key(&self, place: usize) -> Option<u32> {
-        match self.find(place) {
-            Some(i) => Some(self.held[i].0),
-            None => None,
-        }
+        self.held.get(&place).copied()
     }
 
     // The least key and its place, the lowest place among equal keys.
     pub(crate) fn look(&self) -> Option<(u32, usize)> {
-        self.held.iter().copied().min()
+        self.held.iter().map(|(place, key)| (*key, *place)).min()
     }
 
-    pub(crate) fn take(&mut self) -> Option<(u32, usize)> {
+    fn take(&mut self) -> Option<(u32, usize)> {
         let (key, place) = self.look()?;
-        if let Some(i) = self.find(place) {
-            let _ = self.held.remove(i);
-        }
+        let _ = self.held.remove(&place);
         Some((key, place))
     }
 
-    fn offer(&mut self, place: usize, key: u32) -> Result<Answer, AllocError> {
+    fn offer(&mut self, place: usize, key: u32) -> Result<Result<(), QueueFault>, AllocError> {
         if place >= self.size {
-            return Ok(Answer::Refused(QueueFault::Short));
+            return Ok(Err(QueueFault::Short));
         }
-        match self.find(place) {
-            Some(i) => self.held[i] = (key.min(self.held[i].0), place),
-            None => self.held.push((key, place))?,
-        }
-        Ok(Answer::Done)
+        let held = self.held.entry(place)?.or_insert(key);
+        *held = key.min(*held);
+        Ok(Ok(()))
     }
 
     pub(crate) fn answer(&mut self, call: Call) -> Result<Answer, AllocError> {
-        match call {
-            Call::Size => Ok(Answer::Count(self.size)),
-            Call::Held => Ok(Answer::Count(self.held.len())),
+        Ok(match call {
+            Call::Size => Answer::Count(self.size),
+            Call::Held => Answer::Count(self.held.len()),
             Call::Empty => {
                 self.held.clear();
-                Ok(Answer::Done)
+                Answer::Done(Ok(()))
             }
-            Call::Offer(place, key) => self.offer(place, key),
-            Call::Look => Ok(Answer::Found(self.look())),
-            Call::Take => Ok(Answer::Found(self.take())),
-        }
+            Call::Offer(place, key) => Answer::Done(self.offer(place, key)?),
+            Call::Look => Answer::Found(self.look()),
+            Call::Take => Answer::Found(self.take()),
+        })
+    }
+
+    // All that is held, by key and then by place.
+    pub(crate) fn sorted(&self, alloc: Global) -> Result<Vec<(u32, usize)>, AllocError> {
+        let mut row: Vec<(u32, usize)> = self
+            .held
+            .iter()
+            .map(|(place, key)| (*key, *place))
+            .collect(alloc)?;
+        row.sort_unstable();
+        Ok(row)
     }
 }

@@ -1,9 +1,10 @@
 // How often each kind of call was met.
 use crate::calls::Call;
 use crate::reference::Reference;
+use std::cmp::Ordering;
 use std::fmt;
 
-#[derive(Drop)]
+#[derive(Default, Drop)]
 pub struct Seen {
     refused: usize,
     fresh: usize,
@@ -16,42 +17,22 @@ pub struct Seen {
 }
 
 impl Seen {
-    pub(crate) fn new() -> Seen {
-        Seen {
-            refused: 0,
-            fresh: 0,
-            lower: 0,
-            equal: 0,
-            higher: 0,
-            taken: 0,
-            untaken: 0,
-            emptied: 0,
-        }
-    }
-
     // Counts a call, by what the reference holds before it.
     pub(crate) fn note(&mut self, reference: &Reference, call: Call) {
-        match call {
-            Call::Offer(place, _) if place >= reference.size() => self.refused = self
-                .refused
-                .saturating_add(1),
-            Call::Offer(place, key) => self.note_offer(reference.key(place), key),
-            Call::Take if reference.look().is_none() => self.untaken = self
-                .untaken
-                .saturating_add(1),
-            Call::Take => self.taken = self.taken.saturating_add(1),
-            Call::Empty => self.emptied = self.emptied.saturating_add(1),
-            _ => {}
-        }
-    }
-
-    fn note_offer(&mut self, had: Option<u32>, key: u32) {
-        match had {
-            None => self.fresh = self.fresh.saturating_add(1),
-            Some(had) if key < had => self.lower = self.lower.saturating_add(1),
-            Some(had) if key == had => self.equal = self.equal.saturating_add(1),
-            Some(_) => self.higher = self.higher.saturating_add(1),
-        }
+        let count = match call {
+            Call::Offer(place, _) if place >= reference.size() => &mut self.refused,
+            Call::Offer(place, key) => match reference.key(place).map(|held| key.cmp(&held)) {
+                None => &mut self.fresh,
+                Some(Ordering::Less) => &mut self.lower,
+                Some(Ordering::Equal) => &mut self.equal,
+                Some(Ordering::Greater) => &mut self.higher,
+            },
+            Call::Take if reference.look().is_none() => &mut self.untaken,
+            Call::Take => &mut self.taken,
+            Call::Empty => &mut self.emptied,
+            Call::Size | Call::Held | Call::Look => return,
+        };
+        *count = count.saturating_add(1);
     }
 }
 

@@ -1,7 +1,10 @@
 -- Graphs written as tables, and a computed test of the laws of a map.
-use Rattle.std.specs.Prelude.{◌≡◌, ℕ, zero, suc, ◌+◌, ◌<◌, ◌≤◌, Bool, true, false, ◌&&◌, leb, List, [], ◌∷◌, Some, None, Option, nat_le, nat_lt, slice_index, slice_index_or, refl}
-use Rattle.std.proofs.Common.{subst, arith}
+use Rattle.std.specs.Prelude.{◌≡◌, ℕ, zero, suc, ◌+◌, ◌<◌, ◌≤◌, Bool, true, false, ◌&&◌, leb, List, [], ◌∷◌, length, Some, None, Option, nat_le, nat_lt, slice_index, slice_index_or, refl}
+use Rattle.std.proofs.Common.{subst, arith, sym, ◌∙◌}
 use Rattle.std.proofs.lemmas.Bool.{and_parts, ltb-true, leb-true, false≢true}
+use Rattle.std.proofs.Props.{props}
+use Rattle.std.proofs.lemmas.Option.{same_Some}
+use mathlib.Core.HLevel.{Σ_prop_path}
 use Rattle.search.specs.Graphs.{Graph, Edge, Path, Lawful, unknown, nth, guess, here, on}
 
 -- the edges of each place in a row, the estimates, and numbers that no path to a place costs more than
@@ -21,6 +24,17 @@ graph_of t =
       finish = t.finish;
       edges = λ p. slice_index_or t.edges p [];
       estimate = λ p. slice_index_or t.estimates p None;
+    }
+
+-- the graph with these estimates, one for each place, and these edges
+abbrev pub graph_at : ℕ → ℕ → List (Option ℕ) → List (List (ℕ × ℕ)) → Graph
+graph_at start finish estimates edges =
+    record {
+      size = length estimates;
+      start = start;
+      finish = finish;
+      edges = λ p. slice_index_or edges p [];
+      estimate = λ p. slice_index_or estimates p None;
     }
 
 -- the estimate at the start of an edge is no more than its cost and the estimate at its end, if there is one
@@ -117,3 +131,11 @@ module _ (t : Table) (ok : rows? t 0 t.edges ≡ true) where
             let sum = ltb-true (most_at t p + d + guess (estimate_at t q)) unknown (second p q d e).1 in
             omega arith;
       }
+
+-- an estimate is one value at most
+estimate_prop : (o : Option ℕ) → IsProp ((e : ℕ) × (o ≡ Some e))
+estimate_prop o = λ u v. Σ_prop_path (λ e. hlevel props) (same_Some u.0 v.0 (sym u.1 ∙ v.1))
+
+-- the laws of a map have one proof at most
+pub lawful_prop : (g : Graph) → IsProp (Lawful g)
+lawful_prop g = hlevel (estimate_prop, props)
