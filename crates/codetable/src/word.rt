@@ -5,6 +5,12 @@ ghost use Rattle.codetable.specs.Codewords.{bits, largest, most_bits, Prefix, Co
 // The most bits of a word.
 pub const MOST_BITS: usize = 24;
 
+// The largest value of a word of 1, 2, up to 24 bits. By rule the numbers are typed out.
+const LARGEST: [u32; MOST_BITS] = [
+    1, 3, 7, 15, 31, 63, 127, 255, 511, 1023, 2047, 4095, 8191, 16383, 32767, 65535, 131071,
+    262143, 524287, 1048575, 2097151, 4194303, 8388607, 16777215,
+];
+
 // A word of `len` bits: the first bit is the highest of its value.
 #[derive(Clone, Copy, PartialEq, Eq, Debug)]
 pub struct Codeword {
@@ -30,10 +36,11 @@ impl Codeword {
 
 // The largest value of a word of `len` bits.
 pub(crate) fn largest_value(len: usize) -> u32
+    requires some { 1 ≤ len }
     requires few { len ≤ most_bits }
     ensures value { result ≡ largest len }
 {
-    (1 << len) - 1
+    LARGEST[len - 1]
 }
 
 // Whether b begins with a.

@@ -65,32 +65,36 @@ impl Loader {
         }
     }
 
-    // WORD: adds a word of `len` bits with weight 0.
+    // WORD: adds a word of `len` bits with weight 0. By rule a fault passes up by `?`, here and below.
     pub fn enter_word(&mut self, len: usize, value: u32) -> Result<(), Refusal>
         ensures works { Works (sheet self.old) (word len value result) (sheet self.new) }
     {
-        self.table.push(len, value).map_err(Refusal::from)
+        self.table.push(len, value)?;
+        Ok(())
     }
 
     // WEIGH: sets the weight of a word.
     pub fn set_weight(&mut self, number: usize, weight: u16) -> Result<(), Refusal>
         ensures works { Works (sheet self.old) (weigh number weight result) (sheet self.new) }
     {
-        self.table.set_weight(number, weight).map_err(Refusal::from)
+        self.table.set_weight(number, weight)?;
+        Ok(())
     }
 
     // DROP: removes the last word. The stored steps keep their numbers.
     pub fn drop_word(&mut self) -> Result<(), Refusal>
         ensures works { Works (sheet self.old) (drop result) (sheet self.new) }
     {
-        self.table.pop().map_err(Refusal::from)
+        self.table.pop()?;
+        Ok(())
     }
 
     // BIT: adds a soft value.
     pub fn add_value(&mut self, value: i8) -> Result<(), Refusal>
         ensures works { Works (sheet self.old) (bit value result) (sheet self.new) }
     {
-        self.received.push(value).map_err(Refusal::from)
+        self.received.push(value)?;
+        Ok(())
     }
 
     // WIPE: empties the take.

@@ -1,6 +1,9 @@
-use Rattle.std.proofs.Common.{arith, pow_mono}
-use Rattle.codetable.proofs.Bits.{largest_pow}
+use Rattle.std.proofs.Common.{◌-◌, arith}
+use Rattle.std.proofs.lemmas.List.FromFn.{get_or-map-range_with_len}
+use Rattle.codetable.specs.Codewords.{largest, most_bits}
 use Rattle.codetable.proofs.word.largest_value.Goals as goal
 
+-- the list is `largest` at 1 to 24
 pub returns : goal.returns
-returns c = record { value = omega (arith, largest_pow c.args.len, pow_mono c.requires.few) }
+unfolding largest
+returns c = record { value = get_or-map-range_with_len largest 1 most_bits (c.args.len - 1) c.args.len 0 (omega arith) (omega arith) }

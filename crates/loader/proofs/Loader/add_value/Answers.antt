@@ -1,14 +1,23 @@
-use Rattle.std.proofs.Common.{[], ◌∷◌, ◌++◌, w8}
+use Rattle.std.proofs.Common.{◌≡◌, [], ◌∷◌, ◌++◌, ℤ, refl, ap, subst}
 use Rattle.std.proofs.lemmas.Int.{to_z-of_z}
-use Rattle.softvalues.specs.Received.{value_checks}
+use Rattle.refusal.specs.Checks.{FirstDue}
+use Rattle.refusal.specs.Refusals.{layer, number}
+use Rattle.refusal.specs.declared.Layer.TheVariants as at
+use Rattle.refusal.specs.declared.Refusal.{Refusal}
+use Rattle.refusal.specs.declared.Refusal.TheVariants.{Take}
+use Rattle.softvalues.specs.declared.received.SoftValues.{SoftValues}
+use Rattle.softvalues.specs.Received.{values, value_checks}
+use Rattle.loader.specs.Sheets.{Sheet, with_received}
 use Rattle.loader.specs.Held.{sheet}
-use Rattle.loader.proofs.Passed.{values_raised}
+use Rattle.loader.proofs.Passed.{passed}
 use Rattle.loader.proofs.Loader.add_value.Goals as goal
 
-pub returns : goal.returns
-returns c =
+pub returns-in_err-push : goal.returns-in_err-push
+returns-in_err-push c =
     let s = sheet c.args.self.now in
-    let pushed = rw (to_z-of_z w8 c.args.value c.ranges.value) at c.push.ensures.answer in
+    let t : Sheet = with_received s (values c.push.new.self) in
+    let refused = c.in_err-push.ensures.answer in
+    let due = subst (λ (v : ℤ). FirstDue (value_checks s.received v) (number (Take c.in_err-push.field-0.0))) (to_z-of_z _ c.args.value c.ranges.value) refused.0 in
     record {
-      works = values_raised c.args.self.now c.push.new.self (s.received ++ c.args.value ∷ []) (value_checks s.received c.args.value) c.push.result c.map_err.result c.map_err.ensures.cases pushed;
+      works = passed (value_checks s.received c.args.value) c.from_residual.result (Take c.in_err-push.field-0.0) (λ _. t ≡ with_received s (s.received ++ c.args.value ∷ [])) (λ (f : Refusal). (layer f ≡ at.Take) × (t ≡ s)) c.from_residual.ensures.0 c.from_residual.ensures.1 due (refl, ap (λ (x : SoftValues). with_received s (values x)) refused.1);
     }
