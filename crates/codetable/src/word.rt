@@ -1,6 +1,6 @@
 // A codeword, and the rules that it keeps alone and beside another.
 ghost use Rattle.std.specs.Prelude.{◌≡◌, ◌≤◌, false, MatchBool, slice_index_or};
-ghost use Rattle.codetable.specs.Codewords.{bits, largest, most_bits, Prefix, Conflict};
+ghost use Rattle.codetable.specs.Codewords.{bits, largest, most_bits, Formed, Prefix, Conflict};
 
 // The most bits of a word.
 pub const MOST_BITS: usize = 24;
@@ -45,13 +45,17 @@ pub(crate) fn largest_value(len: usize) -> u32
 
 // Whether b begins with a.
 fn begins(a: Codeword, b: Codeword) -> bool
+    requires first { Formed a }
+    requires second { Formed b }
     ensures tells { MatchBool result (Prefix (bits a) (bits b)) (Prefix (bits a) (bits b) → ⊥) }
 {
-    a.len <= b.len && (0..usize::from(a.len)).all(|i| a.bit(i) == b.bit(i))
+    a.len <= b.len && b.value >> (b.len - a.len) == a.value
 }
 
 // Whether one of two words is the start of the other.
 pub(crate) fn conflicts(a: Codeword, b: Codeword) -> bool
+    requires first { Formed a }
+    requires second { Formed b }
     ensures tells { MatchBool result (Conflict a b) (Conflict a b → ⊥) }
 {
     begins(a, b) || begins(b, a)

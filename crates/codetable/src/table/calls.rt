@@ -3,7 +3,7 @@ ghost use Rattle.std.specs.Prelude.{◌≡◌, ◌-◌, [], ◌∷◌, ◌++◌,
 ghost use Rattle.std.specs.List.{slice_get};
 ghost use Rattle.refusal.specs.Checks.{Judged};
 ghost use Rattle.refusal.specs.declared.Refusal.TheVariants.{Table};
-ghost use Rattle.codetable.specs.Codewords.{reweighed, Clashes};
+ghost use Rattle.codetable.specs.Codewords.{reweighed, Formed, Clashes};
 ghost use Rattle.codetable.specs.Tables.{words, entered, word_checks, weigh_checks, drop_checks};
 
 use super::{CodeTable, MOST_WORDS};
@@ -91,6 +91,7 @@ impl CodeTable {
 
     // Whether a word conflicts with one of the table.
     fn clashes(&self, word: Codeword) -> bool
+        requires word { Formed word }
         ensures tells { MatchBool result (Clashes (words self.now) word) (Clashes (words self.now) word → ⊥) }
     {
         self.as_slice().iter().any(|&other| conflicts(other, word))
