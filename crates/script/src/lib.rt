@@ -5,7 +5,7 @@
 ghost use Rattle.std.specs.Prelude.{◌≡◌, ℕ, ◌+◌, ◌<◌, ◌≤◌, Bool, [], ◌∷◌, length, drop, Some, slice_index_or};
 ghost use Rattle.std.specs.List.{between, position_or_len};
 ghost use Rattle.std.specs.Iterator.{YieldsFirstRef, item_count};
-ghost use Rattle.script.specs.Scan.{Tests, fields_left, at_end};
+ghost use Rattle.script.specs.Scan.{Tests, lines_left, fields_left, at_end};
 ghost use Rattle.script.specs.Script.{newline, lines, blank, fields, bit, bits, number, word_entry, step_entry, entry_of, comment, reading, reason};
 
 use std::fmt;
@@ -86,6 +86,37 @@ pub fn line_end(text: &[u8], from: usize) -> usize
         return from;
     };
     from + len_before(rest, is_newline)
+}
+
+// The lines of a text, the first of them first, without the newlines between them. `line_end` says where each ends.
+#[derive(Clone, Copy)]
+pub struct Lines<'a> {
+    // What is left of the text, or none behind its last line.
+    rest: Option<&'a [u8]>,
+}
+
+impl<'a> Lines<'a> {
+    // All lines of a text.
+    pub fn new(text: &'a [u8]) -> Lines<'a>
+        ensures left { lines_left result ≡ lines text.now }
+    {
+        Lines { rest: Some(text) }
+    }
+}
+
+impl<'a> Iterator for Lines<'a> {
+    type Item = &'a [u8];
+
+    ghost next_gives = { YieldsFirstRef lines_left };
+
+    ghost remaining = { item_count lines_left };
+
+    fn next(&mut self) -> Option<&'a [u8]> {
+        let rest = self.rest?;
+        let end = line_end(rest, 0);
+        self.rest = rest.get(end + 1..);
+        Some(&rest[..end])
+    }
 }
 
 // The fields of a line, the first of them first. The line is what is left of it.
@@ -284,5 +315,16 @@ mod tests {
         assert_eq!(rt; line_end(b"step 1\n\nstep 2", 7), 7);
         assert_eq!(rt; line_end(b"step 1\n\nstep 2", 8), 14);
         assert_eq!(rt; line_end(b"step 1\n\nstep 2", 20), 20);
+    }
+
+    #[test]
+    fn cuts_lines(rt: HostRuntime) {
+        let mut lines = Lines::new(b"a\n\nb");
+        assert_eq!(rt; lines.next(), Some(b"a".as_slice()));
+        assert_eq!(rt; lines.next(), Some(b"".as_slice()));
+        assert_eq!(rt; lines.next(), Some(b"b".as_slice()));
+        assert_eq!(rt; lines.next(), None);
+        assert_eq!(rt; Lines::new(b"").count(), 1);
+        assert_eq!(rt; Lines::new(b"\n").count(), 2);
     }
 }

@@ -1,17 +1,13 @@
 -- The run over a text, from one line to the next.
-use Rattle.std.proofs.Common.{◌≡◌, ℕ, ◌+◌, ◌<◌, ◌≤◌, Bool, false, Bor, Some, None, List, [], ◌∷◌, ◌++◌, length, get_or, drop, Ok, Err, Option, Result, sym, refl, ap, ◌∙◌, subst, ⊎_elim, append_assoc, append-nil, zero-add, arith}
+use Rattle.std.proofs.Common.{◌≡◌, ℕ, ◌+◌, ◌<◌, ◌≤◌, Bor, Some, None, List, [], ◌∷◌, ◌++◌, length, get_or, drop, Ok, Err, Option, Result, sym, refl, ap, ◌∙◌, subst, ⊎_elim, append_assoc, append-nil, zero-add, arith}
 use Rattle.std.proofs.Math.ListN.{drop_of_length-le}
 use Rattle.std.specs.Result.{IfOk, IsErrAnd, MatchResult}
 use Rattle.std.specs.List.{enumerate_from}
-use Rattle.std.specs.Fn.{CalledAt, Mut}
-use Rattle.std.specs.Iterator.{Yields}
+use Rattle.std.specs.Iterator.{Yields, YieldsFirstRef}
 use Rattle.std.specs.Iterator.Adapters.{enumerate_source, enumerate_count, enumerate_steps}
-use Rattle.std.specs.Slice.Iter.{split_rest, split_done, split_callee, split_steps}
 use Rattle.std.specs.declared.iter.Enumerate.{Enumerate}
-use Rattle.std.specs.declared.slice.Split.{Split}
 use Rattle.std.proofs.lemmas.Iterator.{YieldsList}
-use Rattle.std.proofs.lemmas.Iterator.Consumers.{YieldsList-from_enumerate, YieldsList-turn, YieldsList-end}
-use Rattle.std.proofs.lemmas.Iterator.Splits.{YieldsList-from_slice_split}
+use Rattle.std.proofs.lemmas.Iterator.Consumers.{YieldsList-from_enumerate, YieldsList-from_first, YieldsList-turn, YieldsList-end}
 use Rattle.std.proofs.lemmas.List.{drop_more}
 use Rattle.std.proofs.lemmas.List.FromFn.{length-enumerate_from, get_or-enumerate_from}
 use Rattle.std.proofs.lemmas.Result.{err_from_is_err_and}
@@ -30,7 +26,9 @@ use Rattle.transfer.specs.Transfers.{sent_bits}
 use Rattle.transfer.specs.Calls.{step_checks, close_checks, Carries, Finished, Delivers}
 use Rattle.transfer.proofs.Carried.{same_length}
 use Rattle.transfer.proofs.Written.{written_none}
-use Rattle.script.specs.Script.{newline, lines, fields, reading}
+use Rattle.script.specs.declared.Lines.{Lines}
+use Rattle.script.specs.Scan.{lines_left}
+use Rattle.script.specs.Script.{lines, fields, reading}
 use Rattle.sender.specs.declared.Line.{Line}
 use Rattle.sender.specs.declared.Report.{Report}
 use Rattle.sender.specs.declared.session.Session.{Session}
@@ -52,27 +50,24 @@ sofar_more size text k s t items l o sofar lt e does rs u runs =
     (goes (k + 1) s t u l (drop (k + 1) (lines text)) o rs does runs)))
 
 -- a loop over the lines with their indices
-module _ {F : Type 0} (g : Mut F (Bor ℕ × Unit {0}) Bool) (text : List ℕ) where
-  abbrev Steps : Enumerate (Split ℕ F) → Option (ℕ × Bor (List ℕ)) → Enumerate (Split ℕ F) → Type 0
-  Steps = enumerate_steps (split_steps g)
+module _ (text : List ℕ) where
+  abbrev Steps : Enumerate Lines → Option (ℕ × Bor (List ℕ)) → Enumerate Lines → Type 0
+  Steps = enumerate_steps (YieldsFirstRef lines_left)
 
-  -- what begins at `from`, by what the calls in front of the loop and the calls of the test ensure
-  pub record Begins (from : Enumerate (Split ℕ F)) : Type 0 where
+  -- what begins at `from`, by what the calls in front of the loop ensure
+  pub record Begins (from : Enumerate Lines) : Type 0 where
     pub count : enumerate_count from ≡ 0
-    pub rest : split_rest (enumerate_source from) ≡ text
-    pub done : split_done (enumerate_source from) ≡ false
-    pub tests : (x : ℕ) (b : Bool) (q : F) → CalledAt g (split_callee (enumerate_source from)) x b q → (q ≡ split_callee (enumerate_source from)) × (b ≡ newline x)
+    pub left : lines_left (enumerate_source from) ≡ lines text
 
-  pub begins : (from en : Enumerate (Split ℕ F)) (split : Split ℕ F) → from ≡ en → enumerate_source en ≡ split → enumerate_count en ≡ 0 → split_rest split ≡ text → split_done split ≡ false → ((x : ℕ) (b : Bool) (q : F) → CalledAt g (split_callee (enumerate_source from)) x b q → (q ≡ split_callee (enumerate_source from)) × (b ≡ newline x)) → Begins from
-  begins from en split same source count rest done tests =
-      let there : enumerate_source from ≡ split = ap enumerate_source same ∙ source in
-      record { count = ap enumerate_count same ∙ count; rest = ap split_rest there ∙ rest; done = ap split_done there ∙ done; tests = tests }
+  pub begins : (from en : Enumerate Lines) (it : Lines) → from ≡ en → enumerate_source en ≡ it → enumerate_count en ≡ 0 → lines_left it ≡ lines text → Begins from
+  begins from en it same source count left =
+      record { count = ap enumerate_count same ∙ count; left = ap lines_left (ap enumerate_source same ∙ source) ∙ left }
 
-  road : (from : Enumerate (Split ℕ F)) → Begins from → YieldsList Steps (λ p. (p.0, p.1.now)) from (enumerate_from 0 (lines text))
-  road from h = YieldsList-from_enumerate (YieldsList-from_slice_split g newline text h.rest h.done refl h.tests) h.count
+  road : (from : Enumerate Lines) → Begins from → YieldsList Steps (λ p. (p.0, p.1.now)) from (enumerate_from 0 (lines text))
+  road from h = YieldsList-from_enumerate (YieldsList-from_first (λ l. l.now) lines_left (lines text) h.left) h.count
 
   -- the line that comes is the one behind those that came
-  pub this_line : (from t u : Enumerate (Split ℕ F)) (xs : List (ℕ × Bor (List ℕ))) (r : Option (ℕ × Bor (List ℕ))) → Yields Steps from xs t → Steps t r u → Begins from → (i : ℕ) (l : Bor (List ℕ)) → r ≡ Some (i, l) → (length xs < length (lines text)) × (i ≡ length xs) × (l.now ≡ get_or (lines text) (length xs) l.now)
+  pub this_line : (from t u : Enumerate Lines) (xs : List (ℕ × Bor (List ℕ))) (r : Option (ℕ × Bor (List ℕ))) → Yields Steps from xs t → Steps t r u → Begins from → (i : ℕ) (l : Bor (List ℕ)) → r ≡ Some (i, l) → (length xs < length (lines text)) × (i ≡ length xs) × (l.now ≡ get_or (lines text) (length xs) l.now)
   this_line from t u xs r yielded next h i l some =
       let turn = YieldsList-turn (road from h) xs t yielded r u (i, l) some next in
       let lt : length xs < length (lines text) = omega (arith, turn.0, length-enumerate_from 0 (lines text)) in
@@ -80,7 +75,7 @@ module _ {F : Type 0} (g : Mut F (Bor ℕ × Unit {0}) Bool) (text : List ℕ) w
       (lt, ap (λ (p : ℕ × List ℕ). p.0) e ∙ zero-add (length xs), ap (λ (p : ℕ × List ℕ). p.1) e)
 
   -- no line is left
-  pub no_line : (from t u : Enumerate (Split ℕ F)) (xs : List (ℕ × Bor (List ℕ))) (r : Option (ℕ × Bor (List ℕ))) → Yields Steps from xs t → Steps t r u → Begins from → r ≡ None → length (lines text) ≤ length xs
+  pub no_line : (from t u : Enumerate Lines) (xs : List (ℕ × Bor (List ℕ))) (r : Option (ℕ × Bor (List ℕ))) → Yields Steps from xs t → Steps t r u → Begins from → r ≡ None → length (lines text) ≤ length xs
   no_line from t u xs r yielded next h none =
       omega (arith, (YieldsList-end (road from h) xs t yielded r u none next).1, length-enumerate_from 0 (lines text))
 

@@ -9,7 +9,7 @@ ghost use Rattle.sender.specs.Accounts.{Accounts, Holds, Closes};
 use crate::session::Session;
 use crate::{Account, Line, Report};
 use refusal::TransferFault;
-use script::is_newline;
+use script::Lines;
 use transfer::{ClosedTransfer, OpenTransfer};
 
 // Adds a line to the account where there is something to report.
@@ -28,7 +28,7 @@ fn note(lines: &mut Vec<Line>, number: usize, report: Option<Report>)
 pub fn count_lines(text: &[u8]) -> usize
     ensures count { result ≡ length (lines_of text.now) }
 {
-    text.split(is_newline).count()
+    Lines::new(text).count()
 }
 
 // Follows each line of a text, from a session without words and steps.
@@ -38,7 +38,7 @@ fn follow_all(text: &[u8], buffer: &mut [u8], account: &mut Vec<Line>) -> Sessio
     ensures runs { (t : Progress) × Runs (length buffer.old) 1 start (lines_of text.now) account.new.items t × Holds t result buffer.old buffer.new }
 {
     let mut session = Session::new();
-    for (i, line) in text.split(is_newline).enumerate() {
+    for (i, line) in Lines::new(text).enumerate() {
         let (next, report) = session.follow(line, buffer);
         session = next;
         note(account, i + 1, report);

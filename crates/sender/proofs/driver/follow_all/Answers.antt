@@ -1,4 +1,4 @@
-use Rattle.std.proofs.Common.{◌+◌, List, ◌++◌, length, vec_items, refl, sym, ap, ◌∙◌, subst, rules, tests, of_calls, arith}
+use Rattle.std.proofs.Common.{◌+◌, List, ◌++◌, length, vec_items, refl, sym, ap, ◌∙◌, subst, of_calls, arith}
 use Rattle.std.proofs.lemmas.List.{nil_from_length, length_push}
 use Rattle.script.specs.Script.{lines}
 use Rattle.sender.specs.declared.Line.{Line}
@@ -20,7 +20,7 @@ loop-i-init c =
 
 pub note-requires : goal.note-requires
 note-requires c =
-    let turn = this_line _ c.args.text.now _ _ _ _ _ c.loop-i.yielded_by c.next.ensures.steps (begins _ _ _ _ _ c.into_iter-i-iterator.ensures.into_iter_gives c.enumerate-i-items.ensures.source c.enumerate-i-items.ensures.count c.split.ensures.rest c.split.ensures.done (λ x b q k. search (rules, tests))) c.in-Some.i c.in-Some.line c.in-Some.is in
+    let turn = this_line c.args.text.now _ _ c.next.new.self _ _ c.loop-i.yielded_by c.next.ensures.steps (begins _ _ _ _ c.into_iter-i-iterator.ensures.into_iter_gives c.enumerate-i-items.ensures.source c.enumerate-i-items.ensures.count c.new.ensures.left) c.in-Some.i c.in-Some.line c.in-Some.is in
     record { room = omega (arith, turn.0, c.loop-i.invariant.2, c.loop-i.invariant.3, c.requires.room) }
 
 pub loop-i-preserved : goal.loop-i-preserved
@@ -29,7 +29,7 @@ loop-i-preserved c =
     let size = length c.args.buffer.now in
     let k = length c.loop-i.yielded in
     let inv = c.loop-i.invariant in
-    let turn = this_line _ c.args.text.now _ _ _ _ _ c.loop-i.yielded_by c.next.ensures.steps (begins _ _ _ _ _ c.into_iter-i-iterator.ensures.into_iter_gives c.enumerate-i-items.ensures.source c.enumerate-i-items.ensures.count c.split.ensures.rest c.split.ensures.done (λ x b q k. search (rules, tests))) c.in-Some.i c.in-Some.line c.in-Some.is in
+    let turn = this_line c.args.text.now _ _ c.next.new.self _ _ c.loop-i.yielded_by c.next.ensures.steps (begins _ _ _ _ c.into_iter-i-iterator.ensures.into_iter_gives c.enumerate-i-items.ensures.source c.enumerate-i-items.ensures.count c.new.ensures.left) c.in-Some.i c.in-Some.line c.in-Some.is in
     let goes = c.in-Some.ensures.goes.on inv.1 in
     let report = c.follow-report.result.1 in
     let more = length_push c.loop-i.yielded (c.in-Some.i, c.in-Some.line) in
@@ -48,5 +48,5 @@ loop-i-preserved c =
 pub returns : goal.returns
 returns c =
     let inv = c.loop-i.invariant in
-    let end = no_line _ c.args.text.now _ _ _ _ _ c.loop-i.yielded_by c.next.ensures.steps (begins _ _ _ _ _ c.into_iter-i-iterator.ensures.into_iter_gives c.enumerate-i-items.ensures.source c.enumerate-i-items.ensures.count c.split.ensures.rest c.split.ensures.done (λ x b q k. search (rules, tests))) c.in-None.is in
+    let end = no_line c.args.text.now _ _ c.next.new.self _ _ c.loop-i.yielded_by c.next.ensures.steps (begins _ _ _ _ c.into_iter-i-iterator.ensures.into_iter_gives c.enumerate-i-items.ensures.source c.enumerate-i-items.ensures.count c.new.ensures.left) c.in-None.is in
     record { runs = (inv.4, sofar_last (length c.args.buffer.now) c.args.text.now (length c.loop-i.yielded) inv.4 (vec_items c.loop-i.account) inv.6 end, inv.5) }
