@@ -32,7 +32,7 @@ impl Trace<'_> {
     {
         let before = self.costs[place_of(stage, bits)];
         let cost = self.costs[place_of(stage + 1, bits + usize::from(word.len))];
-        cost.checked_sub(before) == Some(self.reception.share(word, bits))
+        before <= cost && cost - before == self.reception.share(word, bits)
     }
 
     // Whether a word comes last at `stage` words and one more, and `bits` bits.
