@@ -89,11 +89,9 @@ fn follow_file<Q: Queue>(rt: &HostRuntime, bytes: &[u8], queue: &mut Q) -> anyho
             queue,
             costs.as_mut_slice(),
             ahead.as_mut_slice(),
-        )
-        .map_err(|refused| refused.refusal);
-        let report = Report::Word(kind, answer);
-        println!(rt; "{}", Line { place, report })?;
-        if ends(kind, answer) {
+        );
+        println!(rt; "{}", Line::of_word(place, kind, answer))?;
+        if ends(kind, answer.map_err(|refused| refused.refusal)) {
             return Ok(());
         }
     }

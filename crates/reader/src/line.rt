@@ -1,8 +1,8 @@
 // The lines of the account of a file, as they are printed.
-ghost use Rattle.std.specs.Prelude.{Some};
-ghost use Rattle.reader.specs.Lines.{outcome_text, line_text};
+ghost use Rattle.std.specs.Prelude.{◌≡◌, Some};
+ghost use Rattle.reader.specs.Lines.{outcome_text, line_text, word_line};
 
-use crate::Outcome;
+use crate::{Outcome, PlacedRefusal};
 use refusal::{FileFault, Refusal};
 use std::fmt;
 use wordfile::Kind;
@@ -19,6 +19,24 @@ pub enum Report {
 pub struct Line {
     pub place: usize,
     pub report: Report,
+}
+
+impl Line {
+    // The line of a word, from its place, its kind and its answer. A refusal has its own place.
+    pub fn of_word(place: usize, kind: Kind, answer: Result<Outcome, PlacedRefusal>) -> Line
+        ensures line { result ≡ word_line place kind answer }
+    {
+        match answer {
+            Ok(outcome) => Line {
+                place,
+                report: Report::Word(kind, Ok(outcome)),
+            },
+            Err(refused) => Line {
+                place: refused.place,
+                report: Report::Word(kind, Err(refused.refusal)),
+            },
+        }
+    }
 }
 
 // `ok`, and the numbers of a load with the steps that it stores, or the free distance.
