@@ -1,5 +1,5 @@
 // The places of the trellis by their definitions: a place is a number of words, its stage, and a number of bits.
-use crate::reference::Case;
+use crate::reference::{Case, bit_of};
 use codetable::Codeword;
 use std::alloc::{AllocError, Global};
 
@@ -37,8 +37,10 @@ pub(crate) fn trellis_size(case: &Case) -> usize {
 
 // What a word adds to the metric, laid on the values from `at` on.
 fn share(case: &Case, word: Codeword, at: usize) -> u32 {
-    (0..usize::from(word.len))
-        .filter_map(|i| case.against(at.saturating_add(i), word.bit(i)))
+    (0..u32::from(word.len))
+        .rev()
+        .enumerate()
+        .filter_map(|(i, behind)| case.against(at.saturating_add(i), bit_of(word, behind)))
         .fold(u32::from(word.weight), |sum, magnitude| {
             sum.saturating_add(magnitude)
         })

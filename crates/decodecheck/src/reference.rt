@@ -35,44 +35,52 @@ impl Case {
     }
 }
 
-// The words of a list.
-fn words_of(alloc: Global, table: &CodeTable, list: &[u8]) -> Result<Vec<Codeword>, AllocError> {
+// The bit of a word that has so many bits behind it, by its value. On purpose not by `Codeword::bit`, which the decoder
+// calls: so the comparison also tries the definition of a word's bits.
+pub(crate) fn bit_of(word: Codeword, behind: u32) -> bool {
+    word.value.wrapping_shr(behind) % 2 == 1
+}
+
+// How many bits a list's words have.
+fn bit_count(table: &CodeTable, list: &[u8]) -> usize {
     list.iter()
         .filter_map(|k| table.word(usize::from(*k)))
-        .collect(alloc)
+        .fold(0, |bits: usize, word| {
+            bits.saturating_add(usize::from(word.len))
+        })
 }
 
-// The bits of words, joined.
-fn join(alloc: Global, words: &[Codeword]) -> Result<Vec<bool>, AllocError> {
-    let mut bits = Vec::new(alloc);
-    for word in words {
-        bits.extend((0..usize::from(word.len)).map(|i| word.bit(i)))?;
-    }
-    Ok(bits)
-}
-
-// The sum of the weights of words.
-fn weigh(words: &[Codeword]) -> u32 {
-    words.iter().fold(0, |sum: u32, word| {
-        sum.saturating_add(u32::from(word.weight))
-    })
+// The sum of the weights of a list's words.
+fn weigh(table: &CodeTable, list: &[u8]) -> u32 {
+    list.iter()
+        .filter_map(|k| table.word(usize::from(*k)))
+        .fold(0, |sum: u32, word| {
+            sum.saturating_add(u32::from(word.weight))
+        })
 }
 
 // A list with its metric, if its bits are as many as the values that were received.
 fn try_list(alloc: Global, case: &Case, list: &[u8]) -> Result<Option<Fitting>, AllocError> {
-    let words = words_of(alloc, &case.table, list)?;
-    let bits = join(alloc, &words)?;
-    if bits.len() != case.received.len() {
+    if bit_count(&case.table, list) != case.received.len() {
         return Ok(None);
     }
-    let mut metric = weigh(&words);
-    let mut changed: u32 = 0;
-    for (i, bit) in bits.iter().enumerate() {
-        if let Some(magnitude) = case.against(i, *bit) {
-            metric = metric.saturating_add(magnitude);
-            changed = changed.saturating_add(1);
-        }
-    }
+    let bits = list
+        .iter()
+        .filter_map(|k| case.table.word(usize::from(*k)))
+        .flat_map(|word| {
+            (0..u32::from(word.len))
+                .rev()
+                .map(move |behind| bit_of(word, behind))
+        });
+    let (metric, changed) = (0..case.received.len())
+        .zip(bits)
+        .filter_map(|(i, bit)| case.against(i, bit))
+        .fold(
+            (weigh(&case.table, list), 0u32),
+            |(metric, changed), magnitude| {
+                (metric.saturating_add(magnitude), changed.saturating_add(1))
+            },
+        );
     let list = list.to_vec(alloc)?;
     Ok(Some(Fitting {
         metric,
